@@ -1,0 +1,21 @@
+-- A branch: what a `cond` is where its test is known. Assumes nothing.
+use mathlib.Core.Path.{_≡_, refl, sym}
+use mathlib.Core.Bool.{Bool, true, false, not, cond}
+
+module _ {A : Type 0} where
+  pub cond-yes : (b : Bool) (x y : A) → b ≡ true → x ≡ cond b x y
+  cond-yes b x y h = rw h
+
+  pub cond-then : (b : Bool) (x y z : A) → b ≡ true → z ≡ x → z ≡ cond b x y
+  cond-then b x y z h e = rw h e
+
+  pub cond-no : (b : Bool) (x y z : A) → b ≡ false → z ≡ y → z ≡ cond b x y
+  cond-no b x y z h e = rw h e
+
+pub not-true : (b : Bool) → not b ≡ true → b ≡ false
+not-true true h = sym h
+not-true false h = refl
+
+pub not-false : (b : Bool) → not b ≡ false → b ≡ true
+not-false true h = refl
+not-false false h = sym h

@@ -1,0 +1,14 @@
+pub mod Turns
+pub mod Branches
+pub mod Places
+pub mod Ring
+pub mod FloatOrder
+pub mod FloatRounding
+pub mod FloatSums
+pub mod FloatProducts
+pub mod FloatQuotients
+pub mod FloatFractions
+pub mod FloatParts
+pub mod FloatPack
+pub mod FloatValues
+pub mod FloatSizes
