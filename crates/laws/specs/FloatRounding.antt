@@ -72,7 +72,7 @@ unfolding odd
 odd-signed s d zero k l = same-sign s
 odd-signed s d (suc q) k l = same-sign s
 
-units-signed : (s : Bool) (f : Format) (q k : ℕ) → T (signed s (units f s q k))
+pub units-signed : (s : Bool) (f : Format) (q k : ℕ) → T (signed s (units f s q k))
 unfolding units
 units-signed s f q k = go (ltb (q * 2 ^ k) (2 ^ (low f + suc (emax f))))
   where

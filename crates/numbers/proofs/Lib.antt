@@ -1,0 +1,6 @@
+pub mod Narrowing
+pub mod ToWhole
+pub mod Rooting
+pub mod Vectors
+pub mod Integers
+pub mod Minus

@@ -1,0 +1,12 @@
+-- `numbers::compare::is_finite` meets its contract. Assumes nothing.
+use lib.Ieee.{binary64, ofBits}
+use Rattle.numbers.specs.Laws.{finite-is}
+use Rattle.numbers.proofs.compare.is_finite.Statement.{statement}
+use Rattle.numbers.proofs.compare.is_finite.Tie as tie
+
+returns : tie.Need-returns
+unfolding ofBits
+returns c = finite-is binary64 (c .args .x)
+
+pub is-finite-spec : {M : Type 1} → statement M
+is-finite-spec = tie.close (tie.spec returns)

@@ -1,0 +1,10 @@
+-- `numbers::compare::is_nan` meets its contract. Assumes nothing.
+use Rattle.numbers.specs.Laws.{ne-self}
+use Rattle.numbers.proofs.compare.is_nan.Statement.{statement}
+use Rattle.numbers.proofs.compare.is_nan.Tie as tie
+
+returns : tie.Need-returns
+returns c = ne-self (c .args .x)
+
+pub is-nan-spec : {M : Type 1} → statement M
+is-nan-spec = tie.close (tie.spec returns)

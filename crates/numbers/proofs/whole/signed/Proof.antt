@@ -1,0 +1,27 @@
+-- Assumes nothing.
+use mathlib.Core.Path.{_≡_, refl, sym, ap, _∙_, subst}
+use mathlib.Core.Bool.{Bool, true, false, cond}
+use lib.Dec.{T}
+use lib.Ieee.{Float, binary64, ofBits, fits, ne, isNan}
+use lib.Dec.{le→leb}
+use lib.IntN.{pos}
+use Prim.Native.Nat.{_^_}
+use lib.Ieee.{round, inFloat, ofInt, neg}
+use Rattle.numbers.proofs.ToWhole.{neg-round}
+use Rattle.numbers.proofs.whole.signed.Statement.{statement}
+use Rattle.numbers.proofs.whole.signed.Tie as tie
+
+int-to-float-y : tie.Need-int-to-float-y
+unfolding inFloat
+int-to-float-y c = le→leb (c .before .args .w) (2 ^ 53) (c .before .pre)
+
+returns : tie.Need-returns
+unfolding ofInt
+returns c = let a = c .before .before .args in neg-round binary64 false (a .w) 1 ∙ ap (λ (b : Bool). round binary64 b (a .w) 1) (sym (c .if1 .taken))
+
+returns-2 : tie.Need-returns-2
+unfolding ofInt
+returns-2 c = let a = c .before .before .args in ap (λ (b : Bool). round binary64 b (a .w) 1) (sym (c .if1 .left))
+
+pub signed-spec : {M : Type 1} → statement M
+signed-spec = tie.close (tie.spec int-to-float-y returns returns-2)

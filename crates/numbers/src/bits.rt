@@ -1,0 +1,1 @@
+// What bits stand for.

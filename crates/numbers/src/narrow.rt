@@ -1,0 +1,56 @@
+// Narrowing, right to the last bit and rounded once, and widening.
+ghost use mathlib.Core.Path.{_≡_};
+ghost use mathlib.Core.Bool.{cond};
+ghost use Prim.Native.Nat.{_+_, _*_, _^_, _<_, _≤_};
+ghost use lib.Ieee.{binary32, round};
+ghost use Rattle.numbers.specs.Numbers.{convert};
+use super::parts::digits;
+use super::parts::least;
+use super::parts::less;
+use super::parts::pow2;
+use super::parts::power;
+use super::parts::shifted;
+use super::parts::wide;
+
+// The same number at the wider format; a NaN stays one.
+pub fn widen(x: f32) -> f64
+    ensures { λ r. ⌜ r ≡ x ⌝ }
+{
+    std::num::f32_to_f64_with_nan(x)
+}
+
+fn sign32(s: bool) -> u32
+    ensures { λ r. ⌜ r ≡ cond s 2147483648 0 ⌝ }
+{
+    if s { 0x8000_0000 } else { 0 }
+}
+
+// d * 2 ^ e smallest values of an `f64`, as an `f32`: the highest one bit of d is counted and moved
+// to a fixed place, and what lies below the last digit kept is rounded off.
+fn narrow_finite(s: bool, d: u64, e: u64) -> f32
+    requires { ⌜ d < 2 ^ 53 ⌝ }
+    requires { ⌜ (0 < e → 2 ^ 52 ≤ d) ⌝ }
+    requires { ⌜ e ≤ 2045 ⌝ }
+    ensures { λ r. ⌜ r ≡ round binary32 s (d * 2 ^ e) (2 ^ 1074) ⌝ }
+{
+    let z = wide(u64::leading_zeros(d));
+    let n = d * pow2(z - 1);
+    let k = less(e, z + 885);
+    let q = shifted(n, k + z + 924 - e);
+    let p = least(k * 0x80_0000 + q, 0x7f80_0000);
+    f32::from_bits(sign32(s) + (p as u32))
+}
+
+pub fn narrow(x: f64) -> f32
+    ensures { λ r. ⌜ r ≡ convert binary32 x ⌝ }
+{
+    if x != x {
+        return 0.0 / 0.0;
+    }
+    let b = f64::to_bits(x);
+    let s = b >= 0x8000_0000_0000_0000;
+    if b % 0x8000_0000_0000_0000 == 0x7ff0_0000_0000_0000 {
+        return f32::from_bits(sign32(s) + 0x7f80_0000);
+    }
+    narrow_finite(s, digits(b), power(b))
+}
