@@ -3,9 +3,7 @@
 ghost use mathlib.Core.Path.{_≡_};
 ghost use Prim.Native.Nat.{_+_, _*_, _<_, _≤_, min};
 ghost use lib.ListN.{length};
-ghost use lib.IntN.{pos};
-ghost use lib.Ieee.{binary64, ofInt};
-ghost use Rattle.signal.specs.Signal.{View, viewOf, Written, Read, freshPlace, rotatedOf, pairedOf, pushedOf, pointsFrom, power64, summed, meanOf, missedBy, errorAt, writtenOf, isUsable, errorOf, readOf};
+ghost use Rattle.signal.specs.Signal.{viewOf, Written, Read, freshPlace, rotatedOf, pairedOf, pushedOf, pointsFrom, power64, summed, meanOf, missedBy, writtenOf, isUsable, readOf};
 use complex::Complex32;
 use numbers::compare::abs;
 use numbers::compare::is_finite;

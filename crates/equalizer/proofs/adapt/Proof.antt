@@ -1,3 +1,4 @@
+-- `equalizer::adapt` meets its contract. Assumes nothing.
 use Prim.Native.Nat.{_≤_, _-_}
 use mathlib.Core.Path.{_≡_}
 use Rattle.laws.specs.Turns.{turns, turns-start, turns-step, turns-end}

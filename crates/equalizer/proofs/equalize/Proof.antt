@@ -1,3 +1,4 @@
+-- `equalizer::equalize` meets its contract. Assumes nothing.
 use Rattle.equalizer.specs.Laws.{step-made}
 use borrow.Author.Needs.{needs}
 use Rattle.equalizer.proofs.equalize.Statement.{statement}

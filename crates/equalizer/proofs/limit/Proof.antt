@@ -1,3 +1,4 @@
+-- `equalizer::limit` meets its contract. Assumes nothing.
 use Rattle.equalizer.specs.Laws.{limited-found, limited-kept}
 use borrow.Author.Needs.{needs}
 use Rattle.equalizer.proofs.limit.Statement.{statement}

@@ -1,3 +1,4 @@
+-- `equalizer::step_of` meets its contract. Assumes nothing.
 use borrow.Author.Needs.{needs}
 use Rattle.equalizer.proofs.step_of.Statement.{statement}
 use Rattle.equalizer.proofs.step_of.Tie as tie

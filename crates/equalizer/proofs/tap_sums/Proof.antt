@@ -1,3 +1,4 @@
+-- `equalizer::tap_sums` meets its contract. Assumes nothing.
 use Prim.Native.Nat.{_≤_, _-_}
 use mathlib.Core.Path.{_≡_, _∙_}
 use Rattle.laws.specs.Turns.{turns, turns-step, turns-none, turns-end}

@@ -1,3 +1,4 @@
+-- `equalizer::tapped` meets its contract. Assumes nothing.
 use borrow.Author.Needs.{needs}
 use Rattle.equalizer.proofs.tapped.Statement.{statement}
 use Rattle.equalizer.proofs.tapped.Tie as tie

@@ -1,3 +1,4 @@
+-- `equalizer::timing_error` meets its contract. Assumes nothing.
 use Rattle.equalizer.specs.Equalizer.{timingOf}
 use borrow.Author.Needs.{needs}
 use Rattle.equalizer.proofs.timing_error.Statement.{statement}

@@ -1,3 +1,4 @@
+-- `equalizer::update` meets its contract. Assumes nothing.
 use Rattle.equalizer.specs.Laws.{updated-found, updated-kept}
 use borrow.Author.Needs.{needs}
 use Rattle.equalizer.proofs.update.Statement.{statement}

@@ -1,3 +1,4 @@
+-- `signal::is_usable` meets its contract. Assumes nothing.
 use borrow.Author.Needs.{needs}
 use Rattle.signal.proofs.is_usable.Statement.{statement}
 use Rattle.signal.proofs.is_usable.Tie as tie

@@ -1,3 +1,4 @@
+-- `signal::mean` meets its contract. Assumes nothing.
 use Prim.Native.Nat.{_^_}
 use lib.Ieee.{inFloat}
 use borrow.Author.Tests.{le-leb}

@@ -1,3 +1,4 @@
+-- `signal::missed` meets its contract. Assumes nothing.
 use borrow.Author.Needs.{needs}
 use Rattle.signal.proofs.missed.Statement.{statement}
 use Rattle.signal.proofs.missed.Tie as tie

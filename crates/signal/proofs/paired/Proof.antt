@@ -1,3 +1,4 @@
+-- `signal::paired` meets its contract. Assumes nothing.
 use borrow.Author.Needs.{needs}
 use Rattle.signal.proofs.paired.Statement.{statement}
 use Rattle.signal.proofs.paired.Tie as tie

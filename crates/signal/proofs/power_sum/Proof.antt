@@ -1,3 +1,4 @@
+-- `signal::power_sum` meets its contract. Assumes nothing.
 use Prim.Native.Nat.{_≤_, _-_}
 use mathlib.Core.Path.{_≡_, _∙_}
 use lib.Ieee.{binary64, ofBits}

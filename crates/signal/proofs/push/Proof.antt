@@ -1,3 +1,4 @@
+-- `signal::push` meets its contract. Assumes nothing.
 use Rattle.signal.specs.Signal.{pushedOf}
 use borrow.Author.Needs.{needs}
 use Rattle.signal.proofs.push.Statement.{statement}

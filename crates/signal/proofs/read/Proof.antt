@@ -1,3 +1,4 @@
+-- `signal::read` meets its contract. Assumes nothing.
 use Rattle.signal.specs.Loops.{read-found, read-nothing}
 use borrow.Author.Needs.{needs}
 use Rattle.signal.proofs.read.Statement.{statement}

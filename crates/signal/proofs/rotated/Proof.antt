@@ -1,3 +1,4 @@
+-- `signal::rotated` meets its contract. Assumes nothing.
 use borrow.Author.Needs.{needs}
 use Rattle.signal.proofs.rotated.Statement.{statement}
 use Rattle.signal.proofs.rotated.Tie as tie
