@@ -42,6 +42,11 @@ const AFTER_STAGES: &str = "
   routines inputs > LIST | routines answers < LIST | routines explain K < LIST
       the same for the five routines
 
+  view inputs > LIST | view answers < LIST
+      pushes and reads of the constellation view, and a digest of what each answered
+  equalizer inputs > LIST | equalizer answers < LIST
+      windows, weights and flags of the equalizer, and a digest of each step
+
   taps matched | taps derivative | taps table RATE
       the matched filter's 1,025 taps, their derivatives, or a rate's tap table, a line each
   selftest [STATES]
