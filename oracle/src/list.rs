@@ -85,7 +85,7 @@ fn explain(r: Record, answers: Answers) {
 }
 
 /// Folds an answer into a digest; each step can be undone, so one wrong answer always shows.
-fn folded(digest: u64, answer: u64) -> u64 {
+pub fn folded(digest: u64, answer: u64) -> u64 {
     let mut h = digest ^ answer;
     h = h.wrapping_add(h << 21);
     h ^= h >> 24;

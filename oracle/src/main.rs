@@ -25,6 +25,7 @@ mod accuracy;
 mod admitted;
 mod calls;
 mod chosen;
+mod decimator_list;
 mod generator;
 mod help;
 mod helpers;
@@ -71,6 +72,7 @@ fn run(words: &[&str]) -> Outcome {
         ["random-state", seed] => calls::write_random(seed),
         ["numbers", rest @ ..] => numbers::run(rest),
         ["routines", rest @ ..] => routine_list::run(rest),
+        ["decimator", rest @ ..] => decimator_list::run(rest),
         ["taps", rest @ ..] => taps::run(rest),
         ["selftest", rest @ ..] => selftest::run(rest),
         _ => Err("no such subcommand; oracle/run help lists them".into()),

@@ -56,6 +56,9 @@ step-ready d s z k =
     (λ l. subst (λ (t : Step). Ready d (t .decimator)) (sym (step-through s z l)) k)
     (lt-or-ge 1 (s .decimation))
 
+pub stepped-ready : (s : Decimator) (z : Complex32) (r : Step) → s .counter < s .decimation → r ≡ steppedOf s z → Ready (s .decimation) (r .decimator)
+stepped-ready s z r l e = subst (λ (t : Step). Ready (s .decimation) (t .decimator)) (sym e) (step-ready (s .decimation) s z (record { by = refl; early = l }))
+
 -- ---- rows
 pub outputs-above : (d : ℕ) → 1 < d → (s : Decimator) → Ready d s → (zs : List Complex32) → outputsOf s zs ≡ map (outputOf d) (answersOf s (map countsOf zs))
 unfolding outputsOf answersOf

@@ -5,6 +5,7 @@ ghost use mathlib.Core.Path.{_≡_};
 ghost use Prim.Native.Nat.{_<_};
 ghost use lib.Ieee.{binary64, ofInt};
 ghost use Rattle.decimator.specs.Decimator.{freshOf, countsOf, integratedOf, combedOf, absorbedOf, soundedOf, advancedOf, scaleOf, scaledOf, outputOf, steppedOf};
+ghost use Rattle.decimator.specs.Values.{Ready};
 use complex::Complex32;
 use numbers::bits::signed;
 use numbers::bits::unsigned;
@@ -188,7 +189,7 @@ fn sounded(d: Decimator, s: Integrators) -> Advance
 }
 
 // One sample in whole numbers.
-pub fn advanced(d: Decimator, n: Counts) -> Advance
+fn advanced(d: Decimator, n: Counts) -> Advance
     requires { ⌜ d .counter < d .decimation ⌝ }
     ensures { λ r. ⌜ r ≡ advancedOf d n ⌝ }
 {
@@ -247,10 +248,11 @@ fn delivered(decimation: usize, a: Answer) -> Output
     }
 }
 
-// One sample.
+// One sample. d = 1 passes it through.
 pub fn stepped(d: Decimator, z: Complex32) -> Step
     requires { ⌜ d .counter < d .decimation ⌝ }
-    ensures { λ r. ⌜ r ≡ steppedOf d z ⌝ }
+    ensures same { λ r. ⌜ r ≡ steppedOf d z ⌝ }
+    ensures ready { λ r. ⌜ Ready (d .decimation) (r .decimator) ⌝ }
 {
     if d.decimation > 1 {
         let a = advanced(d, counted(z));
