@@ -41,6 +41,9 @@ const AFTER_STAGES: &str = "
       the digest of all answers in 16 hex digits; or record K (from 0) with every answer by name
   routines inputs > LIST | routines answers < LIST | routines explain K < LIST
       the same for the five routines
+  decimator inputs > LIST | decimator answers < LIST
+      runs of samples for the decimator, each with its state; a line per run, the digest of its
+      values and its last state
 
   view inputs > LIST | view answers < LIST
       pushes and reads of the constellation view, and a digest of what each answered

@@ -26,6 +26,7 @@ mod admitted;
 mod calls;
 mod chosen;
 mod equalizer_list;
+mod decimator_list;
 mod generator;
 mod help;
 mod helpers;
@@ -75,6 +76,7 @@ fn run(words: &[&str]) -> Outcome {
         ["routines", rest @ ..] => routine_list::run(rest),
         ["view", rest @ ..] => view_list::run(rest),
         ["equalizer", rest @ ..] => equalizer_list::run(rest),
+        ["decimator", rest @ ..] => decimator_list::run(rest),
         ["taps", rest @ ..] => taps::run(rest),
         ["selftest", rest @ ..] => selftest::run(rest),
         _ => Err("no such subcommand; oracle/run help lists them".into()),
