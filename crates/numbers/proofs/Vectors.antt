@@ -1,8 +1,8 @@
 -- closed cases, against Python (IEEE hardware): each is computed by antt. Assumes nothing.
 use mathlib.Core.Path.{_≡_, refl}
-use mathlib.Core.List.{List, [], _∷_, map}
+use mathlib.Core.List.{[], _∷_, map}
 use Prim.Native.Nat.{ℕ}
-use lib.Ieee.{Format, binary32, binary64, ofBits, toBits}
+use lib.Ieee.{binary32, binary64, ofBits, toBits}
 use Rattle.numbers.specs.Numbers.{convert, wholeOf, away, toEven, downward}
 use Rattle.numbers.specs.Root.{sqrtOf}
 

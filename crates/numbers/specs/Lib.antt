@@ -1,5 +1,8 @@
 pub mod Numbers
 pub mod Root
+pub mod Fractions
+pub mod Bits
+pub mod BitsLaws
 pub mod Laws
 pub mod Shift
 pub mod Roots

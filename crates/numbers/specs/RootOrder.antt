@@ -1,9 +1,9 @@
 -- `roundRoot` is the rounding of the exact root: of every fraction that is at most the root the rounded value is at most `roundRoot`, and of every fraction that is at least the root it is at least that.
 -- a / b ≤ √(num / den) is said by whole-number squares: a * a * den ≤ num * (b * b). Assumes nothing.
 use mathlib.Core.Path.{_≡_, refl, sym, ap, _∙_, subst}
-use mathlib.Core.Logic.{_⊎_, inl, inr}
-use Prim.Native.Nat.{ℕ, zero, suc, _+_, _-_, _*_, _/_, _%_, _^_, _≤_, _<_, zero-le, compare, Ordering, Ordering·lt, Ordering·eq, Ordering·gt}
-use native.Mathlib.Nat.{mul-le-mul-left, le-of-suc-le-suc, le-refl, le-suc, le-trans, le-of-eq, le-of-lt, lt-of-lt-of-le, lt-of-le-of-lt, lt-of-not-le, not-le-of-lt, lt-irrefl, eq-or-lt-of-le, zero-lt-suc, mul-le-mul, mul-le-mul-right, mul-lt-mul-of-pos-right, le-of-mul-le-mul-right, lt-of-mul-lt-mul-right, mul-pos, mul-comm, mul-assoc, mul-left-comm, mul-right-comm, mul-mul-mul-comm, div-lt-iff-lt-mul, le-div-iff-mul-le, div-mul-le-self, div-add-mod', div-div-eq-div-mul, pow-suc}
+use mathlib.Core.Logic.{inl, inr}
+use Prim.Native.Nat.{ℕ, suc, _+_, _-_, _*_, _/_, _%_, _^_, _≤_, _<_, zero-le, compare, Ordering, Ordering·lt, Ordering·eq, Ordering·gt}
+use native.Mathlib.Nat.{mul-le-mul-left, le-of-suc-le-suc, le-refl, le-trans, le-of-eq, le-of-lt, lt-of-lt-of-le, lt-of-le-of-lt, lt-of-not-le, not-le-of-lt, eq-or-lt-of-le, mul-le-mul, mul-le-mul-right, mul-lt-mul-of-pos-right, le-of-mul-le-mul-right, lt-of-mul-lt-mul-right, mul-pos, mul-assoc, mul-right-comm, mul-mul-mul-comm, div-lt-iff-lt-mul, le-div-iff-mul-le, div-mul-le-self, div-add-mod', div-div-eq-div-mul}
 use native.Mathlib.Omega.{arith}
 use mathlib.Core.Bool.{Bool, true, false, not, cond, true≢false}
 use lib.Dec.{T, ltb, ltb→lt, nltb→le}
@@ -16,7 +16,7 @@ use lib.Ieee.Nearest.{closest, nearest-ge}
 use lib.Ieee.Order.{drop, kept, le-of-values}
 use Rattle.numbers.specs.Root.{isqrt, closestRoot, roundRoot}
 use Rattle.numbers.specs.Shift.{Cmp, cmp}
-use Rattle.numbers.specs.Roots.{Root, isqrt-is, closestRoot-is, root-at-least}
+use Rattle.numbers.specs.Roots.{isqrt-is, closestRoot-is, root-at-least}
 
 square-lt : (a b : ℕ) → a * a < b * b → a < b
 square-lt a b h = lt-of-not-le (λ (g : b ≤ a). not-le-of-lt h (mul-le-mul g g))

@@ -1,22 +1,21 @@
 -- Assumes nothing.
-use mathlib.Core.Path.{_≡_, refl, sym, ap, _∙_, subst}
-use mathlib.Core.Bool.{Bool, true, false, cond}
+use mathlib.Core.Path.{_≡_, sym, ap, _∙_, subst}
+use mathlib.Core.Bool.{Bool, false}
 use lib.Dec.{T}
-use lib.Ieee.{Float, binary64, ofBits, fits, ne, isNan}
+use lib.Ieee.{Float, binary64, ofBits, fits, isNan}
 use borrow.Author.Needs.{needs}
 use native.Mathlib.Omega.{arith}
 use mathlib.Core.Bool.{not}
-use Prim.Native.Nat.{ℕ, _+_, _-_, _*_, _^_, _%_, _<_, _≤_}
+use Prim.Native.Nat.{ℕ, _-_, _*_, _^_, _%_, _<_, _≤_}
 use lib.IntN.{pos}
 use lib.Dec.{leb, le→leb}
 use lib.Arith.{lt→nleb}
 use lib.Pow.{pow-pos}
-use lib.Ieee.{nan, fin, div, eq, toBits}
+use lib.Ieee.{fin, div, eq, toBits}
 use lib.Ieee.Bits.{is-true, is-false}
 use lib.Ieee.Exact.{HasValue}
 use lib.Ieee.Positive.{first-pos}
-use Rattle.numbers.specs.Root.{roundRoot, sqrtOf}
-use Rattle.numbers.specs.Numbers.{signOf}
+use Rattle.numbers.specs.Root.{roundRoot}
 use Rattle.laws.specs.FloatParts.{digitsOf, powerOf, field}
 use Rattle.numbers.specs.Laws.{no-nan, sign-is}
 use Rattle.laws.specs.FloatParts.{finite-field, float-value, digits-lt}
