@@ -3,16 +3,17 @@
 use mathlib.Core.Path.{_≡_, refl, sym, ap, _∙_, subst}
 use mathlib.Core.Logic.{_⊎_, inl, inr}
 use Prim.Native.Nat.{ℕ, zero, suc, _+_, _-_, _*_, _/_, _%_, _^_, _≤_, _<_, compare, Ordering, Ordering·lt, Ordering·eq, Ordering·gt}
-use native.Mathlib.Nat.{le-trans, le-of-eq, le-of-lt, le-refl, lt-irrefl, lt-of-lt-of-le, lt-of-le-of-lt, lt-of-not-le, not-le-of-lt, mul-le-mul, mul-le-mul-right, mul-le-mul-left, mul-lt-mul-of-pos-right, le-of-mul-le-mul-right, mul-assoc, mul-pos, mul-div-cancel, div-mul-le-self, div-add-mod', mod-lt, le-div-iff-mul-le, div-lt-iff-lt-mul, eq-or-lt-of-le, zero-lt-suc, sub-add-cancel, pow-succ', zero-add}
+use native.Mathlib.Nat.{le-trans, le-of-eq, le-of-lt, le-refl, lt-irrefl, lt-of-lt-of-le, lt-of-le-of-lt, lt-of-not-le, not-le-of-lt, mul-le-mul, mul-le-mul-right, mul-le-mul-left, mul-lt-mul-of-pos-right, le-of-mul-le-mul-right, lt-of-mul-lt-mul-right, mul-assoc, mul-pos, mul-div-cancel, div-mul-le-self, div-add-mod', mod-lt, le-div-iff-mul-le, div-lt-iff-lt-mul, eq-or-lt-of-le, zero-lt-suc, sub-add-cancel, pow-succ', zero-add}
 use native.Mathlib.Omega.{arith}
 use mathlib.Core.Bool.{Bool, true, false, not, cond}
 use lib.IntN.{ℤ}
-use lib.Dec.{T, leb, leb→le, nleb→lt, ltb, eqb, ltb→lt, nltb→le, eqb→eq, lit≤}
+use lib.Dec.{T, leb, leb→le, nleb→lt, ltb, eqb, ltb→lt, lt→ltb, nltb→le, eqb→eq, lit≤}
 use lib.Pow.{pow-add, pow-pos, pow-mono}
-use lib.Ieee.{Float, nan, inf, fin, Format, binary32, binary64, prec, emax, low, hid, ones, top, up, down, size, units, round, fits, ofBits, toBits, nanBits, isNan, neg}
+use lib.Ieee.{Float, nan, inf, fin, Format, binary32, binary64, prec, emax, low, hid, ones, top, up, down, size, units, round, fits, ofBits, toBits, nanBits, neg, lt}
 use lib.Ieee.Digits.{size-reaches}
 use lib.Ieee.Fits.{down-pos, inf-fits, round-is, round-fits, two, two-le-pos}
-use lib.Ieee.Bits.{toBits-ofBits, nanBits-is}
+use lib.Arith.{le→nltb}
+use lib.Ieee.Bits.{toBits-ofBits, nanBits-is, is-true, is-false}
 use lib.Ieee.Exact.{HasValue, units-val}
 use lib.Ieee.Nearest.{closest}
 use lib.Ieee.Order.{drop, kept}
@@ -463,13 +464,16 @@ root-nearest f a b B =
     subst (Nearest f (root a b)) (sym (roundRoot-is f a b))
     (kept-nearest f (root a b) B (keptR p n b) k (keptR-le p n b) (λ K. keptR-ge p n b P K) (root-near f a b k B)
     (λ K.
-        let r : 2 ^ (p - 1) * 2 ^ k ≤ R = le-trans (le-of-eq (sym (pow-add 2 (p - 1) k))) (size-reaches R (p - 1 + k) (all-in-use (size R) p P K)) in
-        high (2 ^ (p - 1)) (2 ^ k) n (le-div-iff-mul-le B .0 (le-trans (mul-le-mul r r) (isqrt-is (n / b) .least)))))
+    let r : 2 ^ (p - 1) * 2 ^ k ≤ R = le-trans (le-of-eq (sym (pow-add 2 (p - 1) k))) (size-reaches R (p - 1 + k) (all-in-use (size R) p P K)) in
+    high (2 ^ (p - 1)) (2 ^ k) n (le-div-iff-mul-le B .0 (le-trans (mul-le-mul r r) (isqrt-is (n / b) .least)))))
   where
     high : (H u n : ℕ) → H * u * (H * u) * b ≤ n → 2 * H * u * (2 * H * u) * b ≤ n * 4
     high H u n h = omega arith
 
 -- ---- a value is known by its place
+no-less : (a b : ℕ) → b ≤ a → ltb a b ≡ false
+no-less a b h = is-false (ltb a b) (le→nltb a b h)
+
 own-value : (f : Format) (m : ℕ) (e : ℤ) → T (fits f (fin false m e)) → HasValue (fin false m e) false (unitsOf f (fin false m e)) (2 ^ low f)
 own-value f m e F =
     let v = fin false m e in
@@ -500,6 +504,48 @@ same-place f (fin false m d) (fin true n c) G K e = absurd (K .plain)
 same-place f (fin false m d) (fin false n c) G K e =
     value-unique f (fin false m d) (fin false n c) false (unitsOf f (fin false n c)) (G .held) (K .held)
     (subst (λ (a : ℕ). HasValue (fin false m d) false a (2 ^ low f)) e (own-value f m d (G .held))) (own-value f n c (K .held))
+
+-- ---- and the order of values is that of their places
+pub place-order : (f : Format) (v w : Float) → Value f v → Value f w → lt v w ≡ ltb (unitsOf f v) (unitsOf f w)
+unfolding lt
+place-order f nan w G K = absurd (G .plain)
+place-order f (inf true) w G K = absurd (G .plain)
+place-order f (inf false) nan G K = absurd (K .plain)
+place-order f (inf false) (inf true) G K = absurd (K .plain)
+place-order f (inf false) (inf false) G K = sym (no-less (unitsOf f (inf false)) (unitsOf f (inf false)) (le-refl (unitsOf f (inf false))))
+place-order f (inf false) (fin true m d) G K = absurd (K .plain)
+place-order f (inf false) (fin false m d) G K = sym (no-less (unitsOf f (inf false)) (unitsOf f (fin false m d)) (le-of-lt (finite-short f m d (K .held))))
+place-order f (fin true m d) w G K = absurd (G .plain)
+place-order f (fin false m d) nan G K = absurd (K .plain)
+place-order f (fin false m d) (inf true) G K = absurd (K .plain)
+place-order f (fin false m d) (inf false) G K = sym (is-true (ltb (unitsOf f (fin false m d)) (unitsOf f (inf false))) (lt→ltb (unitsOf f (fin false m d)) (unitsOf f (inf false)) (finite-short f m d (G .held))))
+place-order f (fin false m d) (fin true n c) G K = absurd (K .plain)
+place-order f (fin false m d) (fin false n c) G K =
+    scaled (m * up d) (down d) (n * up c) (down c) (2 ^ low f) (unitsOf f (fin false m d)) (unitsOf f (fin false n c)) (pow-pos (low f)) (down-pos d) (down-pos c) (own-value f m d (G .held) .1) (own-value f n c (K .held) .1)
+  where
+    scaled : (a x b y p u w : ℕ) → 0 < p → 0 < x → 0 < y → a * p ≡ u * x → b * p ≡ w * y → ltb (a * y) (b * x) ≡ ltb u w
+    scaled a x b y p u w P X Y e g = go (ltb u w) (ltb→lt u w) (nltb→le u w)
+      where
+        left : a * y * p ≡ u * (x * y)
+        left = r a y p ∙ ap (λ (z : ℕ). z * y) e ∙ mul-assoc u x y
+          where
+            r : (a y p : ℕ) → a * y * p ≡ a * p * y
+            r a y p = omega arith
+
+        right : b * x * p ≡ w * (x * y)
+        right = r b x p ∙ ap (λ (z : ℕ). z * x) g ∙ s w y x
+          where
+            r : (b x p : ℕ) → b * x * p ≡ b * p * x
+            r b x p = omega arith
+
+            s : (w y x : ℕ) → w * y * x ≡ w * (x * y)
+            s w y x = omega arith
+
+        go : (t : Bool) → (T t → u < w) → (T (not t) → w ≤ u) → ltb (a * y) (b * x) ≡ t
+        go true h k =
+            is-true (ltb (a * y) (b * x)) (lt→ltb (a * y) (b * x)
+            (lt-of-mul-lt-mul-right p (lt-of-le-of-lt (le-of-eq left) (lt-of-lt-of-le (mul-lt-mul-of-pos-right (h tt) (mul-pos X Y)) (le-of-eq (sym right))))))
+        go false h k = no-less (a * y) (b * x) (le-of-mul-le-mul-right (le-trans (le-of-eq right) (le-trans (mul-le-mul-right (x * y) (k tt)) (le-of-eq (sym left)))) P)
 
 -- ---- being nearest determines the result
 pub nearest-unique : (f : Format) (x : Exact) → Proper x → (y z : Float) → Nearest f x y → Nearest f x z → y ≡ z
