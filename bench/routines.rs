@@ -2,6 +2,7 @@
 //! of higher precision (errors), exact squares (hypotenuse) and the system's math library (distance
 //! and speed).
 
+#[allow(dead_code)]
 #[path = "../oracle/routines.rs"]
 mod routines;
 
