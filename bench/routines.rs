@@ -2,6 +2,7 @@
 //! of higher precision (errors), exact squares (hypotenuse) and the system's math library (distance
 //! and speed).
 
+#[allow(dead_code)]
 #[path = "../oracle/routines.rs"]
 mod routines;
 
@@ -75,7 +76,7 @@ impl Random {
     }
 }
 
-/// In turn: anywhere up to 64; up to 2^30 last places from an eighth of a turn; of any size up to 64;
+/// In turn: anywhere up to 64; up to 2^43 last places from an eighth of a turn; of any size up to 64;
 /// within 32 last places of an eighth.
 fn angle(i: u64, random: &mut Random) -> f64 {
     let eighth = random.below(82) as f64 * std::f64::consts::FRAC_PI_4;
@@ -86,7 +87,7 @@ fn angle(i: u64, random: &mut Random) -> f64 {
     let size = match i % 4 {
         0 => random.part() * 64.0,
         1 => {
-            let places = 1 << random.below(31);
+            let places = 2 << random.below(44);
             nearby(places, random)
         }
         2 => random.part() * 2.0_f64.powi(6 - random.below(40) as i32),

@@ -3,7 +3,7 @@ use mathlib.Core.Path.{_≡_, refl, sym, ap, _∙_, subst}
 use Prim.Native.Nat.{ℕ, zero, suc, _*_, _≤_, _<_}
 use native.Mathlib.Nat.{le-of-lt, le-antisymm, mul-le-mul-right, le-of-mul-le-mul-right, mul-pos, zero-lt-suc}
 use native.Mathlib.Omega.{arith}
-use mathlib.Core.Bool.{true, false, _&&_, true≢false}
+use mathlib.Core.Bool.{Bool, true, false, _&&_, true≢false}
 use lib.Dec.{T, ltb, eqb, eqb→eq, ltb→lt, lt→ltb}
 use lib.Ieee.{Float, nan, inf, fin, Format, binary32, binary64, ofBits, up, down, round, mul, lt, le, eq, fits}
 use lib.Ieee.Fits.{and-l, and-r, round-fits, inf-fits, down-pos}
@@ -16,8 +16,11 @@ use Rattle.laws.specs.FloatValues.{round-least, round-most, id-nonneg}
 use Rattle.numbers.specs.Numbers.{convert}
 use Rattle.numbers.specs.Root.{roundRoot, sqrtOf}
 use Rattle.numbers.specs.RootOrder.{root-above, root-below}
-use Rattle.routines.specs.Hypotenuse.{encloses}
 use Rattle.routines.specs.Squares.{square-is, lt-clash, gt-clash, not-under, convert-up, sqrt-up}
+
+-- low and high enclose the root of s: a rounded square that lies beyond a value of the format tells that the exact one does
+abbrev pub encloses : Float → Float → Float → Bool
+encloses low s high = lt (ofBits binary64 0) low && lt (ofBits binary64 0) high && lt (mul binary64 low low) s && lt s (mul binary64 high high)
 
 -- ---- narrowing keeps the order, infinities included
 inf-most : (z : Float) → T (signed false z) → T (le z (inf false))
