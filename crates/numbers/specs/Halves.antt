@@ -3,7 +3,7 @@
 use mathlib.Core.Path.{_≡_, refl, sym, ap, _∙_, subst}
 use mathlib.Core.Logic.{_⊎_, inl, inr}
 use Prim.Native.Nat.{ℕ, zero, suc, _+_, _*_, _%_, _≤_, _<_, compare, Ordering, Ordering·lt, Ordering·eq, Ordering·gt}
-use native.Mathlib.Nat.{le-trans, le-of-eq, le-of-lt, lt-irrefl, not-le-of-lt, lt-of-lt-of-le, lt-of-le-of-lt, mul-le-mul-right, le-of-mul-le-mul-right, eq-or-lt-of-le, zero-lt-suc}
+use native.Mathlib.Nat.{le-of-eq, le-of-lt, not-le-of-lt, mul-le-mul-right, le-of-mul-le-mul-right, eq-or-lt-of-le}
 use native.Mathlib.Omega.{arith}
 use lib.Ieee.{nearest}
 use Rattle.numbers.specs.Shift.{Cmp, cmp}

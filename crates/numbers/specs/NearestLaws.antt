@@ -3,21 +3,21 @@
 use mathlib.Core.Path.{_≡_, refl, sym, ap, _∙_, subst}
 use mathlib.Core.Logic.{_⊎_, inl, inr}
 use Prim.Native.Nat.{ℕ, zero, suc, _+_, _-_, _*_, _/_, _%_, _^_, _≤_, _<_, compare, Ordering, Ordering·lt, Ordering·eq, Ordering·gt}
-use native.Mathlib.Nat.{le-trans, le-of-eq, le-of-lt, le-refl, lt-irrefl, lt-of-lt-of-le, lt-of-le-of-lt, lt-of-not-le, not-le-of-lt, mul-le-mul, mul-le-mul-right, mul-le-mul-left, mul-lt-mul-of-pos-right, le-of-mul-le-mul-right, lt-of-mul-lt-mul-right, mul-assoc, mul-pos, mul-div-cancel, div-mul-le-self, div-add-mod', mod-lt, le-div-iff-mul-le, div-lt-iff-lt-mul, eq-or-lt-of-le, zero-lt-suc, sub-add-cancel, pow-succ', zero-add}
+use native.Mathlib.Nat.{le-trans, le-of-eq, le-of-lt, le-refl, lt-irrefl, lt-of-lt-of-le, lt-of-le-of-lt, lt-of-not-le, not-le-of-lt, mul-le-mul, mul-le-mul-right, mul-le-mul-left, mul-lt-mul-of-pos-right, le-of-mul-le-mul-right, lt-of-mul-lt-mul-right, mul-assoc, mul-pos, mul-div-cancel, div-add-mod', mod-lt, le-div-iff-mul-le, div-lt-iff-lt-mul, eq-or-lt-of-le, zero-lt-suc, sub-add-cancel, pow-succ', zero-add}
 use native.Mathlib.Omega.{arith}
 use mathlib.Core.Bool.{Bool, true, false, not, cond}
 use lib.IntN.{ℤ}
-use lib.Dec.{T, leb, leb→le, nleb→lt, ltb, eqb, ltb→lt, lt→ltb, nltb→le, eqb→eq, lit≤}
+use lib.Dec.{T, leb, leb→le, nleb→lt, ltb, eqb, ltb→lt, lt→ltb, nltb→le, lit≤}
 use lib.Pow.{pow-add, pow-pos, pow-mono}
 use lib.Ieee.{Float, nan, inf, fin, Format, binary32, binary64, prec, emax, low, hid, ones, top, up, down, size, units, round, fits, ofBits, toBits, nanBits, neg, lt}
 use lib.Ieee.Digits.{size-reaches}
-use lib.Ieee.Fits.{down-pos, inf-fits, round-is, round-fits, two, two-le-pos}
+use lib.Ieee.Fits.{down-pos, inf-fits, round-is, two, two-le-pos}
 use lib.Arith.{le→nltb}
 use lib.Ieee.Bits.{toBits-ofBits, nanBits-is, is-true, is-false}
 use lib.Ieee.Exact.{HasValue, units-val}
 use lib.Ieee.Nearest.{closest}
 use lib.Ieee.Order.{drop, kept}
-use Rattle.laws.specs.FloatRounding.{signed, units-signed, round-neg}
+use Rattle.laws.specs.FloatRounding.{units-signed, round-neg}
 use Rattle.laws.specs.FloatParts.{field, digitsOf, powerOf, finite-field, float-value, digits-lt}
 use Rattle.laws.specs.FloatPack.{packed, packed-inf, pattern-under, units-fits, no-nan-bits, value-unique}
 use Rattle.laws.specs.FloatValues.{no-inf, no-nan-fin}
@@ -28,7 +28,7 @@ use Rattle.numbers.specs.Shift.{Cmp, cmp}
 use Rattle.numbers.specs.Faithful.{sqrt-is}
 use Rattle.numbers.specs.Root.{isqrt, closestRoot, roundRoot, sqrtOf}
 use Rattle.numbers.specs.Roots.{isqrt-is, closestRoot-is}
-use Rattle.numbers.specs.RootOrder.{dropR, keptR, kept-le, kept-ge, keptR-le, keptR-ge, all-in-use, roundRoot-is, squares}
+use Rattle.numbers.specs.RootOrder.{dropR, keptR, kept-le, kept-ge, keptR-le, keptR-ge, all-in-use, roundRoot-is}
 use Rattle.numbers.specs.Nearest.{Exact, ratio, root, AtMost, AtLeast, unitsOf, Value, Nearest}
 use Rattle.numbers.specs.Halves.{Near, nearest-near, multiple-below, multiple-above, multiple-tie, low-below, low-not-above, low-no-tie}
 
