@@ -1,0 +1,24 @@
+-- The turn's two ways, and the counter: below 4,096 in and out. Assumes nothing.
+use Prim.Native.Nat.{ℕ, _+_, _<_}
+use native.Mathlib.Omega.{arith}
+use mathlib.Core.Path.{_≡_, refl, ap}
+use mathlib.Core.Logic.{⊎-elim}
+use lib.Dec.{eqb}
+use borrow.Author.Tests.{eq-eqb, ne-eqb}
+use Rattle.laws.specs.Places.{le-or}
+use Rattle.laws.specs.Branches.{cond-then, cond-no}
+use Rattle.oscillator.specs.declared.Oscillator.{Oscillator}
+use Rattle.oscillator.specs.Oscillator.{movedOf, renormalizedOf, turnedOf}
+
+pub turned-last : (o r : Oscillator) → o .renormalize + 1 ≡ 4096 → r ≡ renormalizedOf (movedOf o) → (r ≡ turnedOf o) × (r .renormalize < 4096)
+unfolding turnedOf
+turned-last o r h e =
+    let z : r .renormalize ≡ 0 = ap (λ (p : Oscillator). p .renormalize) e in
+    (cond-then (eqb (o .renormalize + 1) 4096) (renormalizedOf (movedOf o)) (movedOf o) r (eq-eqb (o .renormalize + 1) 4096 h) e, omega arith)
+
+pub turned-other : (o : Oscillator) → o .renormalize < 4096 → (o .renormalize + 1 ≡ 4096 → ⊥) → (movedOf o ≡ turnedOf o) × (movedOf o .renormalize < 4096)
+unfolding turnedOf
+turned-other o l h = (cond-no (eqb (o .renormalize + 1) 4096) (renormalizedOf (movedOf o)) (movedOf o) (movedOf o) (ne-eqb (o .renormalize + 1) 4096 h) refl, room (o .renormalize) l h)
+  where
+    room : (n : ℕ) → n < 4096 → (n + 1 ≡ 4096 → ⊥) → n + 1 < 4096
+    room n l h = ⊎-elim (λ (k : n + 1 < 4096). k) (λ (e : n + 1 ≡ 4096). absurd (h e)) (le-or (n + 1) 4096 (omega arith))

@@ -1,0 +1,89 @@
+// The mixer: a complex oscillator that turns by one step a sample, in f64.
+ghost use mathlib.Core.Path.{_≡_};
+ghost use Prim.Native.Nat.{_<_};
+ghost use Rattle.oscillator.specs.Oscillator.{startedAt, renormalizedOf, movedOf, turnedOf, signedBy, productOf, mixedOf};
+use complex::Complex32;
+use complex::Complex64;
+use numbers::narrow::widen;
+use numbers::root::sqrt;
+
+// Where the oscillator stands, the step it turns by, and the turns since it was brought to size 1.
+pub struct Oscillator {
+    pub real: f64,
+    pub imaginary: f64,
+    pub step_real: f64,
+    pub step_imaginary: f64,
+    pub renormalize: usize,
+}
+
+// At 1, with the step given.
+pub fn started(step: Complex64) -> Oscillator
+    ensures { λ r. ⌜ r ≡ startedAt step ⌝ }
+{
+    Oscillator {
+        real: 1.0,
+        imaginary: 0.0,
+        step_real: step.real,
+        step_imaginary: step.imaginary,
+        renormalize: 0,
+    }
+}
+
+// Brought to size 1, and its count to 0.
+fn renormalized(o: Oscillator) -> Oscillator
+    ensures { λ r. ⌜ r ≡ renormalizedOf o ⌝ }
+{
+    let size = sqrt(o.real * o.real + o.imaginary * o.imaginary);
+    Oscillator {
+        real: o.real / size,
+        imaginary: o.imaginary / size,
+        step_real: o.step_real,
+        step_imaginary: o.step_imaginary,
+        renormalize: 0,
+    }
+}
+
+// One step on; every 4,096th step renormalises.
+pub fn turned(o: Oscillator) -> Oscillator
+    requires { ⌜ o .renormalize < 4096 ⌝ }
+    ensures same { λ r. ⌜ r ≡ turnedOf o ⌝ }
+    ensures below { λ r. ⌜ r .renormalize < 4096 ⌝ }
+{
+    let next = Oscillator {
+        real: o.real * o.step_real - o.imaginary * o.step_imaginary,
+        imaginary: o.real * o.step_imaginary + o.imaginary * o.step_real,
+        step_real: o.step_real,
+        step_imaginary: o.step_imaginary,
+        renormalize: o.renormalize + 1,
+    };
+    if next.renormalize == 4096 {
+        return renormalized(next);
+    }
+    next
+}
+
+// Profile 1 takes the conjugate.
+fn signed_by(conjugated: bool, imaginary: f64) -> f64
+    ensures { λ r. ⌜ r ≡ signedBy conjugated imaginary ⌝ }
+{
+    if conjugated { -imaginary } else { imaginary }
+}
+
+// The sample times the oscillator, before it is narrowed.
+fn product(o: Oscillator, sample: Complex32, conjugated: bool) -> Complex64
+    ensures { λ r. ⌜ r ≡ productOf o sample conjugated ⌝ }
+{
+    let real = widen(sample.real);
+    let imaginary = widen(sample.imaginary);
+    Complex64 {
+        real: real * o.real - imaginary * o.imaginary,
+        imaginary: signed_by(conjugated, real * o.imaginary + imaginary * o.real),
+    }
+}
+
+// The sample times the oscillator, conjugated under profile 1, each part rounded once.
+pub fn mixed(o: Oscillator, sample: Complex32, conjugated: bool) -> Complex32
+    ensures { λ r. ⌜ r ≡ mixedOf o sample conjugated ⌝ }
+{
+    complex::narrowed(product(o, sample, conjugated))
+}
