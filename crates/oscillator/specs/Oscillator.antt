@@ -1,8 +1,8 @@
 -- The mixer: the oscillator's turn, and the sample times the oscillator, in the Rust's order. Definitions only.
 use Prim.Native.Nat.{_+_}
-use mathlib.Core.Bool.{Bool, cond}
-use lib.Dec.{eqb}
-use lib.Ieee.{Float, binary64, ofBits, add, sub, mul, div, neg}
+use mathlib.Core.Bool.{Bool, cond, not}
+use lib.Dec.{T, eqb}
+use lib.Ieee.{Float, binary64, ofBits, add, sub, mul, div, neg, isNan}
 use Rattle.numbers.specs.Root.{sqrtOf}
 use Rattle.complex.specs.Complex.{narrowedOf}
 use Rattle.complex.specs.declared.Complex32.{Complex32}
@@ -33,6 +33,11 @@ renormalizedOf o = record { real = div binary64 (o .real) (sizeOf o); imaginary 
 -- one step on; every 4,096th renormalises
 unfoldable pub turnedOf : Oscillator → Oscillator
 turnedOf o = cond (eqb (o .renormalize + 1) 4096) (renormalizedOf (movedOf o)) (movedOf o)
+
+-- no part is NaN: a block with such a sample is refused
+pub record Number (s : Complex32) : Type 0 where
+  pub real : T (not (isNan (s .real)))
+  pub imaginary : T (not (isNan (s .imaginary)))
 
 -- an f32 is the same value as an f64; profile 1 takes the conjugate
 unfoldable pub signedBy : Bool → Float → Float

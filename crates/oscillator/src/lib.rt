@@ -1,10 +1,9 @@
 // The mixer: a complex oscillator that turns by one step a sample, in f64.
 ghost use mathlib.Core.Path.{_≡_};
 ghost use Prim.Native.Nat.{_<_};
-ghost use Rattle.oscillator.specs.Oscillator.{startedAt, renormalizedOf, movedOf, turnedOf, signedBy, productOf, mixedOf};
+ghost use Rattle.oscillator.specs.Oscillator.{startedAt, renormalizedOf, movedOf, turnedOf, signedBy, Number, productOf, mixedOf};
 use complex::Complex32;
 use complex::Complex64;
-use numbers::narrow::widen;
 use numbers::root::sqrt;
 
 // Where the oscillator stands, the step it turns by, and the turns since it was brought to size 1.
@@ -71,10 +70,11 @@ fn signed_by(conjugated: bool, imaginary: f64) -> f64
 
 // The sample times the oscillator, before it is narrowed.
 fn product(o: Oscillator, sample: Complex32, conjugated: bool) -> Complex64
+    requires { ⌜ Number sample ⌝ }
     ensures { λ r. ⌜ r ≡ productOf o sample conjugated ⌝ }
 {
-    let real = widen(sample.real);
-    let imaginary = widen(sample.imaginary);
+    let real = sample.real as f64;
+    let imaginary = sample.imaginary as f64;
     Complex64 {
         real: real * o.real - imaginary * o.imaginary,
         imaginary: signed_by(conjugated, real * o.imaginary + imaginary * o.real),
@@ -83,6 +83,7 @@ fn product(o: Oscillator, sample: Complex32, conjugated: bool) -> Complex64
 
 // The sample times the oscillator, conjugated under profile 1, each part rounded once.
 pub fn mixed(o: Oscillator, sample: Complex32, conjugated: bool) -> Complex32
+    requires { ⌜ Number sample ⌝ }
     ensures { λ r. ⌜ r ≡ mixedOf o sample conjugated ⌝ }
 {
     complex::narrowed(product(o, sample, conjugated))

@@ -3,11 +3,11 @@ use borrow.Author.Needs.{needs}
 use Rattle.oscillator.proofs.product.Statement.{statement}
 use Rattle.oscillator.proofs.product.Tie as tie
 
-widen-requires : tie.Need-widen-requires
-widen-requires c κs = search needs
+float-to-float-real : tie.Need-float-to-float-real
+float-to-float-real c = search needs
 
-widen-requires-2 : tie.Need-widen-requires-2
-widen-requires-2 c κs = search needs
+float-to-float-imaginary : tie.Need-float-to-float-imaginary
+float-to-float-imaginary c = search needs
 
 signed-by-requires : tie.Need-signed-by-requires
 signed-by-requires c κs = search needs
@@ -16,4 +16,5 @@ returns : tie.Need-returns
 returns c = cc
 
 pub product-spec : {M : Type 1} → statement M
-product-spec = tie.close (tie.spec widen-requires widen-requires-2 signed-by-requires returns)
+product-spec =
+    tie.close (tie.spec float-to-float-real float-to-float-imaginary signed-by-requires returns)
