@@ -1,71 +1,84 @@
-//! The five routines as lists of once-rounded steps, coded by hand: sine and cosine of an angle up
-//! to 64 in size, the angle of a point, and the hypotenuse. Every `+ - * /`, root and narrowing
-//! below is one IEEE 754 operation; nothing is fused and no library routine is called.
+//! The five routines, coded by hand from docs/ROUTINES.md and from nothing else. Every `+ - * /`,
+//! root and narrowing below is one IEEE 754 operation; nothing is fused, and no library routine but
+//! the correctly rounded root is called.
 
-// 2 / pi, and pi / 2 in three parts of 33 bits.
-const TWO_OVER_PI: f64 = 6.36619772367581382433e-01;
-const HALF_PI_HIGH: f64 = 1.57079632673412561417e+00;
-const HALF_PI_MIDDLE: f64 = 6.07710050630396597660e-11;
-const HALF_PI_LOW: f64 = 2.02226624879595063154e-21;
+const TWO_OVER_PI: f64 = f64::from_bits(0x3fe45f306dc9c883);
+const HALF_PI_HIGH: f64 = f64::from_bits(0x3ff921fb54400000);
+const HALF_PI_MIDDLE: f64 = f64::from_bits(0x3dd0b4611a600000);
+const HALF_PI_LOW: f64 = f64::from_bits(0x3ba3198a2e037073);
 
-const QUARTER_PI: f64 = 0.785_398_163_397_448_28;
-const HALF_PI: f64 = 1.570_796_326_794_896_6;
-const PI: f64 = 3.141_592_653_589_793_1;
+const QUARTER_PI: f64 = f64::from_bits(0x3fe921fb54442d18);
+const HALF_PI: f64 = f64::from_bits(0x3ff921fb54442d18);
+const PI: f64 = f64::from_bits(0x400921fb54442d18);
 
-// tan(pi / 8): above it an arctangent is taken from pi / 4.
-const EIGHTH_TURN: f64 = 0.414_213_562_373_095_03;
-
-// The coefficients of the sine's and the cosine's polynomials, lowest power first.
-const SINE: [f64; 6] = [
-    -1.66666666666666324348e-01,
-    8.33333333332248946124e-03,
-    -1.98412698298579493134e-04,
-    2.75573137070700676789e-06,
-    -2.50507602534068634195e-08,
-    1.58969099521155010221e-10,
+// S1, and S2 to S6.
+const SINE_FIRST: f64 = f64::from_bits(0x3fc5555555555549);
+const SINE: [f64; 5] = [
+    f64::from_bits(0x3f8111111110f8a6),
+    f64::from_bits(0x3f2a01a019c161d5),
+    f64::from_bits(0x3ec71de357b1fe7d),
+    f64::from_bits(0x3e5ae5e68a2b9ceb),
+    f64::from_bits(0x3de5d93a5acfd57c),
 ];
+
+// C1 to C6.
 const COSINE: [f64; 6] = [
-    4.16666666666666019037e-02,
-    -1.38888888888741095749e-03,
-    2.48015872894767294178e-05,
-    -2.75573143513906633035e-07,
-    2.08757232129817482790e-09,
-    -1.13596475577881948265e-11,
+    f64::from_bits(0x3fa555555555554c),
+    f64::from_bits(0x3f56c16c16c15177),
+    f64::from_bits(0x3efa01a019cb1590),
+    f64::from_bits(0x3e927e4f809c52ad),
+    f64::from_bits(0x3e21ee9ebdb4b1c4),
+    f64::from_bits(0x3da8fae9be8838d4),
+];
+
+// A1 to A12.
+const ARC: [f64; 12] = [
+    f64::from_bits(0x3fd5555552f27572),
+    f64::from_bits(0x3fc9999846c2fd87),
+    f64::from_bits(0x3fc24903920e8756),
+    f64::from_bits(0x3fbc6e85ac6dd140),
+    f64::from_bits(0x3fb72d6302786d08),
+    f64::from_bits(0x3fb33a16cba135fd),
+    f64::from_bits(0x3faf02f9d4118f0c),
+    f64::from_bits(0x3fa69ea5b3ff0dee),
+    f64::from_bits(0x3f9b2f59905fb363),
+    f64::from_bits(0x3f881f69e8f4ec81),
+    f64::from_bits(0x3f6b402b8731dc65),
+    f64::from_bits(0x3f3ce1a2307244cc),
 ];
 
 /// The sine of `x`; NaN where `x` is NaN or beyond 64 in size. A zero keeps its sign.
 pub fn sine(x: f64) -> f64 {
-    if x == 0.0 {
-        return x;
-    }
-    if !(x.abs() <= 64.0) {
+    let a = x.abs();
+    if !(a <= 64.0) {
         return f64::NAN;
     }
-    let (rest, quadrant) = reduced(x.abs());
-    let value = within_one(match quadrant {
-        0 => near_sine(rest),
-        1 => near_cosine(rest),
-        2 => -near_sine(rest),
-        _ => -near_cosine(rest),
+    let angle = reduced(a);
+    let size = within_one(match angle.quarter {
+        0 => near_sine(&angle),
+        1 => near_cosine(&angle),
+        2 => -near_sine(&angle),
+        _ => -near_cosine(&angle),
     });
-    if x < 0.0 {
-        -value
+    if x.is_sign_negative() {
+        -size
     } else {
-        value
+        size
     }
 }
 
 /// The cosine of `x`; NaN where `x` is NaN or beyond 64 in size.
 pub fn cosine(x: f64) -> f64 {
-    if !(x.abs() <= 64.0) {
+    let a = x.abs();
+    if !(a <= 64.0) {
         return f64::NAN;
     }
-    let (rest, quadrant) = reduced(x.abs());
-    within_one(match quadrant {
-        0 => near_cosine(rest),
-        1 => -near_sine(rest),
-        2 => -near_cosine(rest),
-        _ => near_sine(rest),
+    let angle = reduced(a);
+    within_one(match angle.quarter {
+        0 => near_cosine(&angle),
+        1 => -near_sine(&angle),
+        2 => -near_cosine(&angle),
+        _ => near_sine(&angle),
     })
 }
 
@@ -79,7 +92,7 @@ pub fn arctangent(y: f32, x: f32) -> f32 {
     if y.is_nan() || x.is_nan() {
         return f32::NAN;
     }
-    let first = first_quadrant(y.abs() as f64, x.abs() as f64);
+    let first = first_quadrant(f64::from(y.abs()), f64::from(x.abs()));
     let upper = if x.is_sign_negative() {
         PI - first
     } else {
@@ -98,78 +111,82 @@ pub fn hypotenuse(x: f32, y: f32) -> f32 {
     if x.is_infinite() || y.is_infinite() {
         return f32::INFINITY;
     }
-    let (a, b) = (x as f64, y as f64);
+    let (a, b) = (f64::from(x), f64::from(y));
     (a * a + b * b).sqrt() as f32
 }
 
-// An angle in 0..=64 as a rest near zero and the number of quarter turns, modulo 4.
-fn reduced(angle: f64) -> (f64, u64) {
-    let turns = (angle * TWO_OVER_PI + 0.5) as u64;
-    let k = turns as f64;
-    let high = angle - k * HALF_PI_HIGH;
-    let middle = high - k * HALF_PI_MIDDLE;
-    (middle - k * HALF_PI_LOW, turns % 4)
+// What is left of an angle in 0..=64 after whole quarter turns, in two parts, and the number of
+// those turns modulo 4.
+struct Reduced {
+    quarter: u64,
+    rest: f64,
+    tail: f64,
 }
 
-// The sine of a rest: r + r (z p(z)) with z = r r.
-fn near_sine(r: f64) -> f64 {
-    let z = r * r;
-    r + r * (z * polynomial(z, &SINE))
-}
-
-// The cosine of a rest: 1 - (z / 2 - z (z p(z))) with z = r r.
-fn near_cosine(r: f64) -> f64 {
-    let z = r * r;
-    1.0 - (0.5 * z - z * (z * polynomial(z, &COSINE)))
-}
-
-// From the highest power down: p z + c.
-fn polynomial(z: f64, coefficients: &[f64; 6]) -> f64 {
-    let mut p = coefficients[5];
-    for c in coefficients[..5].iter().rev() {
-        p = p * z + c;
+fn reduced(a: f64) -> Reduced {
+    let n = (TWO_OVER_PI * a + 0.5) as u64;
+    let k = n as f64;
+    let t = a - k * HALF_PI_HIGH;
+    let w = k * HALF_PI_MIDDLE;
+    let u = t - w;
+    let e = (t - u) - w;
+    let v = k * HALF_PI_LOW - e;
+    let rest = u - v;
+    let tail = (u - rest) - v;
+    Reduced {
+        quarter: n % 4,
+        rest,
+        tail,
     }
-    p
+}
+
+fn near_sine(angle: &Reduced) -> f64 {
+    let z = angle.rest * angle.rest;
+    let v = z * angle.rest;
+    let q2 = nested(z, &SINE);
+    let g = z * (0.5 * angle.tail - v * q2) - angle.tail;
+    angle.rest - (g + v * SINE_FIRST)
+}
+
+fn near_cosine(angle: &Reduced) -> f64 {
+    let z = angle.rest * angle.rest;
+    let q1 = nested(z, &COSINE);
+    let h = 0.5 * z;
+    let w = 1.0 - h;
+    w + (((1.0 - w) - h) + (z * (z * q1) - angle.rest * angle.tail))
+}
+
+// From the last coefficient to the first: c - z p.
+fn nested(z: f64, coefficients: &[f64]) -> f64 {
+    let (last, others) = coefficients.split_last().expect("coefficients");
+    others.iter().rev().fold(*last, |p, c| c - z * p)
 }
 
 fn within_one(v: f64) -> f64 {
-    if v > 1.0 {
-        1.0
-    } else if v < -1.0 {
+    if v < -1.0 {
         -1.0
+    } else if v > 1.0 {
+        1.0
     } else {
         v
     }
 }
 
 // The angle of (x, y), both at least zero.
-fn first_quadrant(y: f64, x: f64) -> f64 {
-    if y > x {
-        HALF_PI - unit_arctangent(x / y)
-    } else if x == 0.0 {
+fn first_quadrant(v: f64, h: f64) -> f64 {
+    if v > h {
+        HALF_PI - arc(h / v)
+    } else if h == 0.0 {
         0.0
-    } else if y.is_infinite() {
+    } else if v.is_infinite() {
         QUARTER_PI
     } else {
-        unit_arctangent(y / x)
+        arc(v / h)
     }
 }
 
 // The arctangent of t in 0..=1.
-fn unit_arctangent(t: f64) -> f64 {
-    if t > EIGHTH_TURN {
-        QUARTER_PI + series((t - 1.0) / (t + 1.0))
-    } else {
-        series(t)
-    }
-}
-
-// u (1 - z (1/3 - z (1/5 - .. - z (1/17 - z (1/19))))) with z = u u, for u up to tan(pi / 8).
-fn series(u: f64) -> f64 {
-    let z = u * u;
-    let mut p = 1.0 / 19.0;
-    for n in (0..9).rev() {
-        p = 1.0 / (2 * n + 1) as f64 - z * p;
-    }
-    u * p
+fn arc(t: f64) -> f64 {
+    let z = t * t;
+    t * (1.0 - z * nested(z, &ARC))
 }

@@ -41,6 +41,14 @@ const AFTER_STAGES: &str = "
       the digest of all answers in 16 hex digits; or record K (from 0) with every answer by name
   routines inputs > LIST | routines answers < LIST | routines explain K < LIST
       the same for the five routines
+  decimator inputs > LIST | decimator answers < LIST
+      runs of samples for the decimator, each with its state; a line per run, the digest of its
+      values and its last state
+
+  view inputs > LIST | view answers < LIST
+      pushes and reads of the constellation view, and a digest of what each answered
+  equalizer inputs > LIST | equalizer answers < LIST
+      windows, weights and flags of the equalizer, and a digest of each step
 
   taps matched | taps derivative | taps table RATE
       the matched filter's 1,025 taps, their derivatives, or a rate's tap table, a line each

@@ -36,7 +36,7 @@ pub fn run(words: &[&str], inputs: fn() -> Vec<Record>, answers: Answers) -> Res
     }
 }
 
-fn write_inputs(records: &[Record]) -> Result<(), String> {
+pub fn write_inputs(records: &[Record]) -> Result<(), String> {
     let mut output = BufWriter::new(io::stdout());
     for word in records.iter().flat_map(|r| [r.a, r.b, r.c]) {
         output
@@ -46,7 +46,7 @@ fn write_inputs(records: &[Record]) -> Result<(), String> {
     output.flush().map_err(|e| e.to_string())
 }
 
-fn read_inputs() -> Result<Vec<Record>, String> {
+pub fn read_inputs() -> Result<Vec<Record>, String> {
     let mut bytes = Vec::new();
     io::stdin()
         .read_to_end(&mut bytes)
@@ -85,7 +85,7 @@ fn explain(r: Record, answers: Answers) {
 }
 
 /// Folds an answer into a digest; each step can be undone, so one wrong answer always shows.
-fn folded(digest: u64, answer: u64) -> u64 {
+pub fn folded(digest: u64, answer: u64) -> u64 {
     let mut h = digest ^ answer;
     h = h.wrapping_add(h << 21);
     h ^= h >> 24;

@@ -25,6 +25,8 @@ mod accuracy;
 mod admitted;
 mod calls;
 mod chosen;
+mod equalizer_list;
+mod decimator_list;
 mod generator;
 mod help;
 mod helpers;
@@ -43,6 +45,7 @@ mod table;
 mod taps;
 mod trace;
 mod trellis;
+mod view_list;
 mod words;
 
 use std::process::ExitCode;
@@ -71,6 +74,9 @@ fn run(words: &[&str]) -> Outcome {
         ["random-state", seed] => calls::write_random(seed),
         ["numbers", rest @ ..] => numbers::run(rest),
         ["routines", rest @ ..] => routine_list::run(rest),
+        ["view", rest @ ..] => view_list::run(rest),
+        ["equalizer", rest @ ..] => equalizer_list::run(rest),
+        ["decimator", rest @ ..] => decimator_list::run(rest),
         ["taps", rest @ ..] => taps::run(rest),
         ["selftest", rest @ ..] => selftest::run(rest),
         _ => Err("no such subcommand; oracle/run help lists them".into()),

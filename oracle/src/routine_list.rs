@@ -48,22 +48,30 @@ fn inputs() -> Vec<Record> {
     angles.into_iter().zip(points).map(record).collect()
 }
 
-/// Zeros, powers of two, the eighths of a turn, the end at 64, and what lies beyond, each with its
-/// neighbours and of both signs.
+/// Zeros, subnormals, powers of two, the end at 64, and what lies beyond, each with its neighbours;
+/// the eighths of a turn with what lies from one last place to 2^-10 of them away; of both signs.
 fn edge_angles() -> Vec<f64> {
     let mut sizes = vec![64.0, 1e300, f64::MAX, f64::INFINITY, f64::NAN];
-    sizes.extend([0.0, f64::MIN_POSITIVE]);
+    sizes.extend([0.0, f64::MIN_POSITIVE, 1e-310, 1e-320]);
     sizes.extend((-60..=10).map(|power: i64| f64::from_bits(((1023 + power) as u64) << 52)));
-    sizes.extend((1..=82).map(|eighths| eighths as f64 * FRAC_PI_4));
     let around = |x: f64| {
         let bits = x.to_bits();
-        [bits.saturating_sub(1), bits, bits + 1].map(f64::from_bits)
+        [bits.saturating_sub(1), bits, bits + 1]
     };
-    let sizes = sizes.into_iter().flat_map(around);
-    sizes.flat_map(|x| [x, -x]).collect()
+    let near = |eighths: u64| {
+        let bits = (eighths as f64 * FRAC_PI_4).to_bits();
+        let places = [1, 2, 3, 1 << 13, 1 << 28, 1 << 43];
+        std::iter::once(bits).chain(places.into_iter().flat_map(move |p| [bits - p, bits + p]))
+    };
+    let patterns = sizes
+        .into_iter()
+        .flat_map(around)
+        .chain((1..=82).flat_map(near));
+    patterns.map(f64::from_bits).flat_map(|x| [x, -x]).collect()
 }
 
-/// Pairs of special values; quotients around 1, tan(pi / 8) and its inverse; far apart parts.
+/// Pairs of special values; quotients around 1, 1/2 and the tangents of odd sixteenths of a turn;
+/// parts far apart; hypotenuses halfway between two f32.
 fn edge_points() -> Vec<(f32, f32)> {
     let special = SPECIAL32.map(f32::from_bits);
     let mut points: Vec<(f32, f32)> = Vec::new();
@@ -78,7 +86,15 @@ fn edge_points() -> Vec<(f32, f32)> {
             }
         }
     }
+    points.extend((2001..2101).step_by(2).map(halfway));
     points
+}
+
+/// The legs of a right triangle whose hypotenuse, an odd number of 25 bits, lies halfway between two
+/// f32.
+fn halfway(n: u32) -> (f32, f32) {
+    let m = 3600;
+    ((m * m - n * n) as f32, (2 * m * n) as f32)
 }
 
 /// Up to 64 in size, one in four small, one in sixteen of any pattern.

@@ -51,7 +51,7 @@ keeps-over f v (fin true m e) p F u h = absurd u
 keeps-over f v (fin false m e) p F u h = round-most f (m * up e) (down e) v (den-pos (fin false m e)) p F (le→cross (fin false m e) v tt p h)
 
 -- ---- s is above zero
-sqrt-is : (f : Format) (s : Float) → T (positive s) → sqrtOf f s ≡ roundRoot f (num s) (den s)
+pub sqrt-is : (f : Format) (s : Float) → T (positive s) → sqrtOf f s ≡ roundRoot f (num s) (den s)
 unfolding sqrtOf
 sqrt-is f nan p = absurd p
 sqrt-is f (inf t) p = absurd p

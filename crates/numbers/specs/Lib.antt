@@ -8,3 +8,6 @@ pub mod Shift
 pub mod Roots
 pub mod RootOrder
 pub mod Faithful
+pub mod Nearest
+pub mod Halves
+pub mod NearestLaws

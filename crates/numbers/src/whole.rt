@@ -28,8 +28,8 @@ fn signed32(s: bool, w: u64) -> f32
     requires { ⌜ w ≤ 2 ^ 24 ⌝ }
     ensures { λ r. ⌜ r ≡ round binary32 s w 1 ⌝ }
 {
-    let y = w as f32;
-    if s { -y } else { y }
+    let value = w as f32;
+    if s { -value } else { value }
 }
 
 // d / 2 ^ shift to the nearest whole number, a tie upwards.

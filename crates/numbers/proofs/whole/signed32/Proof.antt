@@ -9,9 +9,9 @@ use Rattle.numbers.proofs.ToWhole.{neg-round}
 use Rattle.numbers.proofs.whole.signed32.Statement.{statement}
 use Rattle.numbers.proofs.whole.signed32.Tie as tie
 
-int-to-float-y : tie.Need-int-to-float-y
+int-to-float-value : tie.Need-int-to-float-value
 unfolding inFloat
-int-to-float-y c = le→leb (c .before .args .w) (2 ^ 24) (c .before .pre)
+int-to-float-value c = le→leb (c .before .args .w) (2 ^ 24) (c .before .pre)
 
 returns : tie.Need-returns
 unfolding ofInt
@@ -22,4 +22,4 @@ unfolding ofInt
 returns-2 c = let a = c .before .before .args in ap (λ (b : Bool). round binary32 b (a .w) 1) (sym (c .if1 .left))
 
 pub signed32-spec : {M : Type 1} → statement M
-signed32-spec = tie.close (tie.spec int-to-float-y returns returns-2)
+signed32-spec = tie.close (tie.spec int-to-float-value returns returns-2)
