@@ -4,11 +4,13 @@ use native.Mathlib.Omega.{arith}
 use mathlib.Core.Path.{_≡_, refl, ap}
 use mathlib.Core.Logic.{⊎-elim}
 use lib.Dec.{eqb}
+use lib.Ieee.{Float, binary64, ofBits}
 use borrow.Author.Tests.{eq-eqb, ne-eqb}
 use Rattle.laws.specs.Places.{le-or}
 use Rattle.laws.specs.Branches.{cond-then, cond-no}
+use Rattle.routines.specs.Circle.{sineOf, cosineOf}
 use Rattle.oscillator.specs.declared.Oscillator.{Oscillator}
-use Rattle.oscillator.specs.Oscillator.{movedOf, renormalizedOf, turnedOf}
+use Rattle.oscillator.specs.Oscillator.{angleOf, freshOscillator, movedOf, renormalizedOf, turnedOf}
 
 pub turned-last : (o r : Oscillator) → o .renormalize + 1 ≡ 4096 → r ≡ renormalizedOf (movedOf o) → (r ≡ turnedOf o) × (r .renormalize < 4096)
 unfolding turnedOf
@@ -22,3 +24,7 @@ turned-other o l h = (cond-no (eqb (o .renormalize + 1) 4096) (renormalizedOf (m
   where
     room : (n : ℕ) → n < 4096 → (n + 1 ≡ 4096 → ⊥) → n + 1 < 4096
     room n l h = ⊎-elim (λ (k : n + 1 < 4096). k) (λ (e : n + 1 ≡ 4096). absurd (h e)) (le-or (n + 1) 4096 (omega arith))
+
+pub fresh-is : (rate offset c s : Float) → c ≡ cosineOf (angleOf rate offset) → s ≡ sineOf (angleOf rate offset)
+    → _≡_ {A = Oscillator} (record { real = ofBits binary64 0x3ff0000000000000; imaginary = ofBits binary64 0; «step_real» = c; «step_imaginary» = s; renormalize = 0 }) (freshOscillator rate offset)
+fresh-is rate offset c s p q = rw (p, q)

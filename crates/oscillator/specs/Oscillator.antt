@@ -4,14 +4,25 @@ use mathlib.Core.Bool.{Bool, cond, not}
 use lib.Dec.{T, eqb}
 use lib.Ieee.{Float, binary64, ofBits, add, sub, mul, div, neg, isNan}
 use Rattle.numbers.specs.Root.{sqrtOf}
+use Rattle.routines.specs.Circle.{sineOf, cosineOf}
 use Rattle.complex.specs.Complex.{narrowedOf}
 use Rattle.complex.specs.declared.Complex32.{Complex32}
 use Rattle.complex.specs.declared.Complex64.{Complex64}
 use Rattle.oscillator.specs.declared.Oscillator.{Oscillator}
 
--- at 1, with the step given
-abbrev pub startedAt : Complex64 → Oscillator
-startedAt step = record { real = ofBits binary64 0x3ff0000000000000; imaginary = ofBits binary64 0; «step_real» = step .real; «step_imaginary» = step .imaginary; renormalize = 0 }
+-- `-2.0 * PI * offset / rate`
+abbrev pub angleOf : Float → Float → Float
+angleOf rate offset = div binary64 (mul binary64 (mul binary64 (ofBits binary64 0xc000000000000000) (ofBits binary64 0x400921fb54442d18)) offset) rate
+
+-- at 1, to turn by the angle
+abbrev pub freshOscillator : Float → Float → Oscillator
+freshOscillator rate offset = record {
+  real = ofBits binary64 0x3ff0000000000000;
+  imaginary = ofBits binary64 0;
+  «step_real» = cosineOf (angleOf rate offset);
+  «step_imaginary» = sineOf (angleOf rate offset);
+  renormalize = 0;
+}
 
 -- the oscillator times its step
 abbrev pub movedOf : Oscillator → Oscillator

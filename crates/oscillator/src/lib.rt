@@ -1,10 +1,12 @@
 // The mixer: a complex oscillator that turns by one step a sample, in f64.
 ghost use mathlib.Core.Path.{_≡_};
 ghost use Prim.Native.Nat.{_<_};
-ghost use Rattle.oscillator.specs.Oscillator.{startedAt, renormalizedOf, movedOf, turnedOf, signedBy, Number, productOf, mixedOf};
+ghost use Rattle.oscillator.specs.Oscillator.{freshOscillator, renormalizedOf, turnedOf, signedBy, Number, productOf, mixedOf};
 use complex::Complex32;
 use complex::Complex64;
 use numbers::root::sqrt;
+use routines::circle::cosine;
+use routines::circle::sine;
 
 // Where the oscillator stands, the step it turns by, and the turns since it was brought to size 1.
 pub struct Oscillator {
@@ -15,15 +17,19 @@ pub struct Oscillator {
     pub renormalize: usize,
 }
 
-// At 1, with the step given.
-pub fn started(step: Complex64) -> Oscillator
-    ensures { λ r. ⌜ r ≡ startedAt step ⌝ }
+const PI: f64 = 3.141592653589793;
+
+// At 1. A sample at the offset, in hertz, is turned to 0 at this rate: offset 0 gives the step an
+// imaginary part of -0.
+pub fn fresh(rate: f64, offset: f64) -> Oscillator
+    ensures { λ r. ⌜ r ≡ freshOscillator rate offset ⌝ }
 {
+    let angle = -2.0 * PI * offset / rate;
     Oscillator {
         real: 1.0,
         imaginary: 0.0,
-        step_real: step.real,
-        step_imaginary: step.imaginary,
+        step_real: cosine(angle),
+        step_imaginary: sine(angle),
         renormalize: 0,
     }
 }
