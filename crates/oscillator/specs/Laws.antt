@@ -3,14 +3,16 @@ use Prim.Native.Nat.{ℕ, _+_, _<_}
 use native.Mathlib.Omega.{arith}
 use mathlib.Core.Path.{_≡_, refl, ap}
 use mathlib.Core.Logic.{⊎-elim}
+use mathlib.Core.Bool.{false}
 use lib.Dec.{eqb}
-use lib.Ieee.{Float, binary64, ofBits}
+use lib.Ieee.{Float, binary64, ofBits, isNan}
 use borrow.Author.Tests.{eq-eqb, ne-eqb}
 use Rattle.laws.specs.Places.{le-or}
 use Rattle.laws.specs.Branches.{cond-then, cond-no}
 use Rattle.routines.specs.Circle.{sineOf, cosineOf}
+use Rattle.complex.specs.declared.Complex32.{Complex32}
 use Rattle.oscillator.specs.declared.Oscillator.{Oscillator}
-use Rattle.oscillator.specs.Oscillator.{angleOf, freshOscillator, movedOf, renormalizedOf, turnedOf}
+use Rattle.oscillator.specs.Oscillator.{angleOf, freshOscillator, movedOf, renormalizedOf, turnedOf, Number}
 
 pub turned-last : (o r : Oscillator) → o .renormalize + 1 ≡ 4096 → r ≡ renormalizedOf (movedOf o) → (r ≡ turnedOf o) × (r .renormalize < 4096)
 unfolding turnedOf
@@ -28,3 +30,7 @@ turned-other o l h = (cond-no (eqb (o .renormalize + 1) 4096) (renormalizedOf (m
 pub fresh-is : (rate offset c s : Float) → c ≡ cosineOf (angleOf rate offset) → s ≡ sineOf (angleOf rate offset)
     → _≡_ {A = Oscillator} (record { real = ofBits binary64 0x3ff0000000000000; imaginary = ofBits binary64 0; «step_real» = c; «step_imaginary» = s; renormalize = 0 }) (freshOscillator rate offset)
 fresh-is rate offset c s p q = rw (p, q)
+
+-- a sample whose parts are tested
+pub number : (s : Complex32) → isNan (s .real) ≡ false → isNan (s .imaginary) ≡ false → Number s
+number s p q = record { real = rw p tt; imaginary = rw q tt }
