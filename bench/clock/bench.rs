@@ -81,11 +81,12 @@ include!("mixer.rs");
 
 fn mixes(rounds: u64, profile: i32) -> u64 {
     let (xs, ys) = (numbers_from(1), numbers_from(2));
+    let start = dsp::Demodulator::new(400000.0, 2000.0, profile);
     let mut mixer = Mixer {
-        oscillator_real: 1.0,
-        oscillator_imaginary: 0.0,
-        step_real: 0.9995065603657316,
-        step_imaginary: -0.03141075907812829,
+        oscillator_real: start.oscillator_real,
+        oscillator_imaginary: start.oscillator_imaginary,
+        step_real: start.step_real,
+        step_imaginary: start.step_imaginary,
         renormalize: 0,
         symbols: Profile { profile },
     };

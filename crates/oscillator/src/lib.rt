@@ -51,8 +51,7 @@ fn renormalized(o: Oscillator) -> Oscillator
 // One step on; every 4,096th step renormalises.
 pub fn turned(o: Oscillator) -> Oscillator
     requires { ⌜ o .renormalize < 4096 ⌝ }
-    ensures same { λ r. ⌜ r ≡ turnedOf o ⌝ }
-    ensures below { λ r. ⌜ r .renormalize < 4096 ⌝ }
+    ensures { λ r. ⌜ r ≡ turnedOf o ⌝ }
 {
     let next = Oscillator {
         real: o.real * o.step_real - o.imaginary * o.step_imaginary,

@@ -14,7 +14,7 @@ returns : tie.Need-returns
 returns c = turned-last _ _ (c .before .if1 .taken) (c .renormalized .ensures)
 
 returns-2 : tie.Need-returns-2
-returns-2 c = turned-other _ (c .before .before .before .before .before .before .before .pre) (c .if1 .left)
+returns-2 c = turned-other _ (c .if1 .left)
 
 pub turned-spec : {M : Type 1} → statement M
 turned-spec = tie.close (tie.spec add-t9 renormalized-requires returns returns-2)

@@ -1,5 +1,6 @@
 -- `replay_oscillator::run` is safe and ends: fewer steps are left at each turn. Assumes nothing.
 use Prim.Native.Nat.{_<_}
+use Rattle.oscillator.specs.Laws.{still-below}
 use borrow.Author.Needs.{needs}
 use Rattle.replay_oscillator.proofs.run.Statement.{statement}
 use Rattle.replay_oscillator.proofs.run.Tie as tie
@@ -41,7 +42,7 @@ loop-less : tie.Need-loop-less Inv-loop μ-loop
 loop-less c = search needs
 
 loop-again : tie.Need-loop-again Inv-loop μ-loop
-loop-again c = search needs
+loop-again c = still-below _ _ (c .before .before .before .before .before .before .before .before .loop .inv) (c .before .turned .ensures)
 
 print-line-requires : tie.Need-print-line-requires Inv-loop μ-loop
 print-line-requires c κs = search needs
