@@ -50,6 +50,14 @@ const AFTER_STAGES: &str = "
   equalizer inputs > LIST | equalizer answers < LIST
       windows, weights and flags of the equalizer, and a digest of each step
 
+  clock inputs > LIST | clock answers < LIST
+      samples, updates and handed-in places for clock recovery; a line per record, the digest of the
+      place after it and of a sample's windows
+  oscillator inputs > LIST | oscillator answers < LIST
+      runs of the mixer; a line per run, the digest of its samples and oscillators
+  tables source | tables bits
+      crates/taps/src/table.rt and crates/taps/specs/TapBits.antt, as oracle/check-tables wants them
+
   taps matched | taps derivative | taps table RATE
       the matched filter's 1,025 taps, their derivatives, or a rate's tap table, a line each
   selftest [STATES]

@@ -25,6 +25,7 @@ mod accuracy;
 mod admitted;
 mod calls;
 mod chosen;
+mod clock_list;
 mod equalizer_list;
 mod decimator_list;
 mod generator;
@@ -33,6 +34,7 @@ mod helpers;
 mod list;
 mod numbers;
 mod options;
+mod oscillator_list;
 mod plan;
 mod random;
 mod random_state;
@@ -42,6 +44,7 @@ mod samples;
 mod selftest;
 mod state;
 mod table;
+mod tables;
 mod taps;
 mod trace;
 mod trellis;
@@ -77,6 +80,9 @@ fn run(words: &[&str]) -> Outcome {
         ["view", rest @ ..] => view_list::run(rest),
         ["equalizer", rest @ ..] => equalizer_list::run(rest),
         ["decimator", rest @ ..] => decimator_list::run(rest),
+        ["clock", rest @ ..] => clock_list::run(rest),
+        ["oscillator", rest @ ..] => oscillator_list::run(rest),
+        ["tables", rest @ ..] => tables::run(rest),
         ["taps", rest @ ..] => taps::run(rest),
         ["selftest", rest @ ..] => selftest::run(rest),
         _ => Err("no such subcommand; oracle/run help lists them".into()),

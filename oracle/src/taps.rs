@@ -25,7 +25,7 @@ pub fn run(words: &[&str]) -> Result<(), String> {
 }
 
 /// The `count` taps that were dealt out to the arms, each arm newest first.
-fn in_order(arms: &[Vec<f32>], count: usize) -> Vec<f32> {
+pub fn in_order(arms: &[Vec<f32>], count: usize) -> Vec<f32> {
     let length = arms[0].len();
     (0..count)
         .map(|i| arms[i % arms.len()][length - 1 - i / arms.len()])

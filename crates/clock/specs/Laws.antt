@@ -225,6 +225,18 @@ update-kept c e f p i =
     let k = moved-fits e (record { rate = c .rate; phase = c .phase }) i (f .rate) p in
     record { start = f .start; cold = f .cold; hot = f .hot; phase = k .1; rate = k .0 }
 
+-- so a step, with an update after a symbol, keeps document 01's ranges
+abbrev pub followedOf : Answer → ClockPlace → Float → ClockPlace
+followedOf NoSymbol c e = c
+followedOf (Symbol arm from) c e = updatedOf c e
+
+pub followed-kept : (a : Answer) (c : ClockPlace) (e : Float) → After a c → ErrorFits e → Admitted (followedOf a c e)
+followed-kept NoSymbol c e h i = h
+followed-kept (Symbol arm from) c e h i = update-kept c e (h .0) (h .1) i
+
+pub step-update-kept : (c : ClockPlace) (e : Float) → Admitted c → ErrorFits e → Admitted (followedOf (answerOf (takenOf c) .answer) (answerOf (takenOf c) .place) e)
+step-update-kept c e f i = followed-kept (answerOf (takenOf c) .answer) (answerOf (takenOf c) .place) e (answer-kept c f) i
+
 pub fresh-admitted : Admitted freshPlace
 unfolding le ofBits
 fresh-admitted = record {
@@ -265,6 +277,11 @@ module _ (taps derivatives : List Float) (c : ClockPlace) (z : Complex32) (re im
   pub run-symbol : (arm from : ℕ) (w : Windows) → s .answer ≡ Symbol arm from → w ≡ matchedOf taps derivatives real imaginary arm from
       → _≡_ {A = Run} (record { stepped = s; real = real; imaginary = imaginary; windows = w }) (steppedOf taps derivatives c z re im before)
   run-symbol arm from w a h = run-is w (h ∙ ap (λ (a : Answer). windowsOf a taps derivatives real imaginary before) (sym a))
+
+-- the place and the answer of a step turn on the place alone
+pub stepped-place : (taps derivatives : List Float) (c : ClockPlace) (z : Complex32) (re im : List Float) (before : Windows) → steppedOf taps derivatives c z re im before .stepped ≡ answerOf (takenOf c)
+unfolding steppedOf
+stepped-place taps derivatives c z re im before = refl
 
 -- ---- the update's loop, ended
 pub update-is : (c : ClockPlace) (e p r h : Float) (k : ℕ) → _≡_ {A = Moving} (record { rate = r; phase = p }) (turns (moveTurn e) k (record { rate = c .rate; phase = add binary32 (c .phase) (c .rate) }))

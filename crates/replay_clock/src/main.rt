@@ -1,0 +1,154 @@
+// Plays a list of samples, updates and handed-in places from standard input through the clock, and
+// writes a line for each: the digest of the place after it and, for a sample, of its windows.
+ghost use Prim.Native.Nat.{_≤_};
+ghost use lib.ListN.{length};
+use clock::Answer;
+use clock::ClockPlace;
+use complex::Complex32;
+use numbers::bits::float32;
+use replay::mixed;
+use replay::mixed_flag;
+use replay::mixed_float32;
+use replay::print_line;
+use replay::word;
+
+// A record: what is done, and two words of operands.
+const RECORD: usize = 24;
+
+fn low_half(a: u64) -> u32 {
+    (a % 0x1_0000_0000) as u32
+}
+
+fn high_half(a: u64) -> u32 {
+    (a / 0x1_0000_0000) as u32
+}
+
+fn sample(b: u64, c: u64) -> Complex32 {
+    Complex32 {
+        real: float32(low_half(b)),
+        imaginary: float32(low_half(c)),
+    }
+}
+
+fn handed_in(b: u64, c: u64) -> ClockPlace {
+    ClockPlace {
+        start: (c % 65536) as usize,
+        count: (c / 65536 % 65536) as usize,
+        position: (c / 0x1_0000_0000 % 65536) as usize,
+        warm: c / 0x1_0000_0000_0000 == 1,
+        phase: float32(low_half(b)),
+        rate: float32(high_half(b)),
+    }
+}
+
+fn mixed_place(h: u64, c: ClockPlace) -> u64 {
+    let h1 = mixed(h, c.start as u64);
+    let h2 = mixed(h1, c.count as u64);
+    let h3 = mixed(h2, c.position as u64);
+    let h4 = mixed_flag(h3, c.warm);
+    mixed_float32(mixed_float32(h4, c.phase), c.rate)
+}
+
+fn mixed_plane(h: u64, values: &[f32; 21]) -> u64 {
+    let mut d = h;
+    let mut k = 0;
+    while k < 21 {
+        d = mixed_float32(d, values[k]);
+        k += 1;
+    }
+    d
+}
+
+fn came(answer: Answer) -> bool {
+    match answer {
+        Answer::NoSymbol => false,
+        Answer::Symbol(_, _) => true,
+    }
+}
+
+// A sample into an admitted place. The windows hold 1.5 before, so that those left alone show.
+fn stepped<'a>(
+    c: ClockPlace,
+    sample: Complex32,
+    taps: &'a [f32; 1025],
+    derivatives: &'a [f32; 1025],
+    real: &mut [f32; 256],
+    imaginary: &mut [f32; 256],
+) -> ClockPlace {
+    if !clock::admitted(c) {
+        io::write_all(1, b"not admitted\n");
+        return c;
+    }
+    let mut value_real = [1.5; 21];
+    let mut value_imaginary = [1.5; 21];
+    let mut derivative_real = [1.5; 21];
+    let mut derivative_imaginary = [1.5; 21];
+    let s = clock::step(
+        c,
+        sample,
+        taps,
+        derivatives,
+        real,
+        imaginary,
+        &mut value_real,
+        &mut value_imaginary,
+        &mut derivative_real,
+        &mut derivative_imaginary,
+    );
+    let place = s.place;
+    let answer = s.answer;
+    let h = mixed_place(mixed_flag(0, came(answer)), place);
+    let values = mixed_plane(mixed_plane(h, &value_real), &value_imaginary);
+    let all = mixed_plane(mixed_plane(values, &derivative_real), &derivative_imaginary);
+    print_line(all, 16);
+    place
+}
+
+// The place after one record.
+fn played<'a>(
+    place: ClockPlace,
+    record: &[u8; 24],
+    taps: &'a [f32; 1025],
+    derivatives: &'a [f32; 1025],
+    real: &mut [f32; 256],
+    imaginary: &mut [f32; 256],
+) -> ClockPlace {
+    let a = word(record, 0);
+    let b = word(record, 8);
+    let c = word(record, 16);
+    if a == 0 {
+        return stepped(place, sample(b, c), taps, derivatives, real, imaginary);
+    }
+    let next = if a == 1 {
+        clock::update(place, float32(low_half(b)))
+    } else {
+        handed_in(b, c)
+    };
+    print_line(mixed_place(0, next), 16);
+    next
+}
+
+fn main() {
+    let t = taps::both_tables();
+    let mut real = [0.0; 256];
+    let mut imaginary = [0.0; 256];
+    let mut place = clock::fresh();
+    let mut record = [0u8; 24];
+    let mut left: u64 = 1000000;
+    while left > 0 {
+        let got = io::read_full(0, &mut record);
+        if got < RECORD {
+            left = 0;
+        } else {
+            place = played(
+                place,
+                &record,
+                &t.taps,
+                &t.derivatives,
+                &mut real,
+                &mut imaginary,
+            );
+            left -= 1;
+        }
+    }
+}

@@ -1,0 +1,71 @@
+-- `replay_oscillator::run` is safe and ends: fewer steps are left at each turn. Assumes nothing.
+use Prim.Native.Nat.{_<_}
+use Rattle.oscillator.specs.Laws.{still-below}
+use borrow.Author.Needs.{needs}
+use Rattle.replay_oscillator.proofs.run.Statement.{statement}
+use Rattle.replay_oscillator.proofs.run.Tie as tie
+
+abbrev Inv-loop : tie.InvT-loop
+Inv-loop seed steps kind conjugated o₀ h₀ s₀ left₀ o h s left = o .renormalize < 4096
+
+abbrev μ-loop : tie.MeasureT-loop
+μ-loop seed steps kind conjugated o₀ h₀ s₀ left₀ o h s left = left
+
+loop-holds : tie.Need-loop-holds Inv-loop μ-loop
+loop-holds c = search needs
+
+random-requires : tie.Need-random-requires Inv-loop μ-loop
+random-requires c κs = search needs
+
+random-requires-2 : tie.Need-random-requires-2 Inv-loop μ-loop
+random-requires-2 c κs = search needs
+
+part-requires : tie.Need-part-requires Inv-loop μ-loop
+part-requires c κs = search needs
+
+part-requires-2 : tie.Need-part-requires-2 Inv-loop μ-loop
+part-requires-2 c κs = search needs
+
+mixed-sample-requires : tie.Need-mixed-sample-requires Inv-loop μ-loop
+mixed-sample-requires c κs = search needs
+
+turned-requires : tie.Need-turned-requires Inv-loop μ-loop
+turned-requires c κs = search needs
+
+mixed-oscillator-requires : tie.Need-mixed-oscillator-requires Inv-loop μ-loop
+mixed-oscillator-requires c κs = search needs
+
+sub-left : tie.Need-sub-left Inv-loop μ-loop
+sub-left c = search needs
+
+loop-less : tie.Need-loop-less Inv-loop μ-loop
+loop-less c = search needs
+
+loop-again : tie.Need-loop-again Inv-loop μ-loop
+loop-again c = still-below _ _ (c .before .before .before .before .before .before .before .before .loop .inv) (c .before .turned .ensures)
+
+print-line-requires : tie.Need-print-line-requires Inv-loop μ-loop
+print-line-requires c κs = search needs
+
+returns : tie.Need-returns Inv-loop μ-loop
+returns c = search needs
+
+pub run-spec : {M : Type 1} → statement M
+run-spec =
+    tie.close
+    (tie.spec
+    Inv-loop
+    μ-loop
+    loop-holds
+    random-requires
+    random-requires-2
+    part-requires
+    part-requires-2
+    mixed-sample-requires
+    turned-requires
+    mixed-oscillator-requires
+    sub-left
+    loop-less
+    loop-again
+    print-line-requires
+    returns)
