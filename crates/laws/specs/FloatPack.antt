@@ -101,8 +101,8 @@ room-top : (f : Format) (q k : ℕ) → q ≡ 2 ^ prec f → k * hid f + q < one
 room-top binary32 q k e h = omega arith
 room-top binary64 q k e h = omega arith
 
-under : (f : Format) (q k : ℕ) → q ≤ 2 ^ prec f → (0 < k → hid f ≤ q) → k * hid f + q < ones f * hid f → q * 2 ^ k < 2 ^ (low f + suc (emax f))
-under f q k l g h = elim (eq-or-lt-of-le l) [
+pub pattern-under : (f : Format) (q k : ℕ) → q ≤ 2 ^ prec f → (0 < k → hid f ≤ q) → k * hid f + q < ones f * hid f → q * 2 ^ k < 2 ^ (low f + suc (emax f))
+pattern-under f q k l g h = elim (eq-or-lt-of-le l) [
   | inl e ↦ lt-of-le-of-lt (le-of-eq (ap (λ (x : ℕ). x * 2 ^ k) e ∙ sym (pow-add 2 (prec f) k))) (pow-lt (room-top f q k e h))
   | inr m ↦ lt-of-lt-of-le (shl-lt (prec f) k m) (pow-mono (room-mid f q k g h))
 ]
@@ -119,14 +119,14 @@ some : (f : Format) (q k : ℕ) → q < 2 ^ prec f → ones f * hid f ≤ k * hi
 some binary32 q k l h = omega arith
 some binary64 q k l h = omega arith
 
-over : (f : Format) (q k : ℕ) → q ≤ 2 ^ prec f → (0 < k → hid f ≤ q) → ones f * hid f ≤ k * hid f + q → 2 ^ (low f + suc (emax f)) ≤ q * 2 ^ k
-over f q k l g h = elim (eq-or-lt-of-le l) [
+pub pattern-over : (f : Format) (q k : ℕ) → q ≤ 2 ^ prec f → (0 < k → hid f ≤ q) → ones f * hid f ≤ k * hid f + q → 2 ^ (low f + suc (emax f)) ≤ q * 2 ^ k
+pattern-over f q k l g h = elim (eq-or-lt-of-le l) [
   | inl e ↦ le-trans (pow-mono (past-top f q k e h)) (le-of-eq (pow-add 2 (prec f) k ∙ ap (λ (x : ℕ). x * 2 ^ k) (sym e)))
   | inr m ↦ le-trans (pow-mono (past-mid f q k m h)) (le-trans (le-of-eq (pow-add 2 (prec f - 1) k)) (mul-le-mul-right (2 ^ k) (g (some f q k m h))))
 ]
 
 -- ---- the pattern
-units-fits : (f : Format) (s : Bool) (q k : ℕ) → q ≤ 2 ^ prec f → T (fits f (units f s q k))
+pub units-fits : (f : Format) (s : Bool) (q k : ℕ) → q ≤ 2 ^ prec f → T (fits f (units f s q k))
 unfolding units
 units-fits f s q k a = go (ltb (q * 2 ^ k) (2 ^ (low f + suc (emax f)))) (ltb→lt (q * 2 ^ k) (2 ^ (low f + suc (emax f))))
   where
@@ -137,14 +137,14 @@ units-fits f s q k a = go (ltb (q * 2 ^ k) (2 ^ (low f + suc (emax f)))) (ltb→
 pub packed : (f : Format) (s : Bool) (q k : ℕ) → q ≤ 2 ^ prec f → (0 < k → hid f ≤ q) → k * hid f + q < ones f * hid f → units f s q k ≡ ofBits f (cond s (top f) 0 + (k * hid f + q))
 packed f s q k l g h =
     sym (ofBits-toBits f (units f s q k) (units-fits f s q k l))
-    ∙ ap (ofBits f) (toBits-value f (units f s q k) s (q * 2 ^ k) (units-val f s q k (under f q k l g h)) ∙ add-assoc (cond s (top f) 0) ((size (q * 2 ^ k) - prec f) * hid f) (q * 2 ^ k / 2 ^ (size (q * 2 ^ k) - prec f)) ∙ ap (λ (x : ℕ). cond s (top f) 0 + x) (pat-is f q k l g))
+    ∙ ap (ofBits f) (toBits-value f (units f s q k) s (q * 2 ^ k) (units-val f s q k (pattern-under f q k l g h)) ∙ add-assoc (cond s (top f) 0) ((size (q * 2 ^ k) - prec f) * hid f) (q * 2 ^ k / 2 ^ (size (q * 2 ^ k) - prec f)) ∙ ap (λ (x : ℕ). cond s (top f) 0 + x) (pat-is f q k l g))
 
 no-lt : (a b : ℕ) → b ≤ a → T (not (ltb a b))
 no-lt a b h = not-T (ltb a b) (λ t. not-le-of-lt (ltb→lt a b t) h)
 
 pub packed-inf : (f : Format) (s : Bool) (q k : ℕ) → q ≤ 2 ^ prec f → (0 < k → hid f ≤ q) → ones f * hid f ≤ k * hid f + q → units f s q k ≡ inf s
 unfolding units
-packed-inf f s q k l g h = cond-no (ltb (q * 2 ^ k) (2 ^ (low f + suc (emax f)))) (odd (suc (prec f)) s q k (low f)) (inf s) (no-lt (q * 2 ^ k) (2 ^ (low f + suc (emax f))) (over f q k l g h))
+packed-inf f s q k l g h = cond-no (ltb (q * 2 ^ k) (2 ^ (low f + suc (emax f)))) (odd (suc (prec f)) s q k (low f)) (inf s) (no-lt (q * 2 ^ k) (2 ^ (low f + suc (emax f))) (pattern-over f q k l g h))
 
 pub inf-bits : (f : Format) (s : Bool) → ofBits f (cond s (top f) 0 + ones f * hid f) ≡ inf s
 inf-bits f s = ap (ofBits f) (sym (is f s)) ∙ ofBits-toBits f (inf s) (inf-fits f s)

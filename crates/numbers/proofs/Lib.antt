@@ -1,6 +1,5 @@
 pub mod Narrowing
 pub mod ToWhole
 pub mod Rooting
-pub mod Vectors
 pub mod Integers
 pub mod Minus

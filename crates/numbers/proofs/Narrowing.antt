@@ -1,16 +1,20 @@
--- The numbers of `narrow_finite`. Assumes nothing.
+-- Narrowing by the bits: a number moved up to a fixed place and rounded off, and the everyday case rounded in place. Assumes nothing.
 use mathlib.Core.Path.{_≡_, refl, sym, ap, _∙_, subst}
 use mathlib.Core.Logic.{_⊎_, inl, inr}
-use Prim.Native.Nat.{ℕ, zero, suc, _+_, _-_, _*_, _/_, _%_, _^_, _≤_, _<_, min, zero-le}
-use native.Mathlib.Nat.{lt-of-not-le, not-le-of-lt, le-trans, le-of-eq, lt-of-lt-of-le, lt-of-le-of-lt, mul-le-mul-right, mul-assoc, mul-comm, zero-mul, eq-zero-or-pos, le-refl}
+use Prim.Native.Nat.{ℕ, suc, _+_, _-_, _*_, _/_, _%_, _^_, _≤_, _<_, min, compare, Ordering, Ordering·lt, Ordering·eq, Ordering·gt}
+use native.Mathlib.Nat.{lt-of-not-le, not-le-of-lt, le-trans, le-of-eq, lt-of-lt-of-le, mul-le-mul-right, mul-assoc, zero-mul, eq-zero-or-pos, mul-one}
 use native.Mathlib.Omega.{arith}
-use mathlib.Core.Bool.{Bool, true, false, cond}
-use lib.Dec.{lit≤}
+use mathlib.Core.Bool.{Bool, true, false, not, cond}
+use lib.Dec.{T, leb, ltb, leb→le, nleb→lt, nltb→le, lit≤}
 use lib.Pow.{pow-add, pow-pos, pow-mono, shl-lt}
 use lib.Count.{leadingZeros, leading-of-zero, leading-top, leading-le}
-use lib.Ieee.{Float, Format, binary32, binary64, round, ofBits}
+use lib.Ieee.{binary32, binary64, nearest, round, ofBits}
 use lib.Ieee.Nearest.{closest}
-use Rattle.laws.specs.FloatPack.{shifted-min, closest-top}
+use Rattle.laws.specs.FloatPack.{shifted-bits, shifted-min, closest-top}
+use Rattle.laws.specs.FloatParts.{field, digitsOf, powerOf, digits-lt, digits-some}
+use Rattle.numbers.specs.Shift.{Cmp, cmp}
+use Rattle.numbers.specs.Fractions.{rare}
+use Rattle.numbers.specs.Laws.{or-false, from-false}
 
 -- d, moved up so that its highest digit stands at place 62
 pub record Norm (d z : ℕ) : Type 0 where
@@ -99,3 +103,99 @@ pattern-lt false p h = omega arith
 
 pub min-le : (a b : ℕ) → min a b ≤ b
 min-le a b = omega arith
+
+-- ---- the everyday case
+-- n / 2 ^ 29 to the nearest, a tie to the even one, by adding before the division
+pub rounded-in-place : (n : ℕ) → (n + 268435455 + n / 536870912 % 2) / 536870912 ≡ closest n (2 ^ 29)
+rounded-in-place n = go (cmp (n % 536870912 * 2) 536870912)
+  where
+    go : Cmp (compare (n % 536870912 * 2) 536870912) (n % 536870912 * 2) 536870912 → (n + 268435455 + n / 536870912 % 2) / 536870912 ≡ nearest (n / 536870912) (compare (n % 536870912 * 2) 536870912)
+    go = by (compare (n % 536870912 * 2) 536870912)
+      where
+        by : (o : Ordering) → Cmp o (n % 536870912 * 2) 536870912 → (n + 268435455 + n / 536870912 % 2) / 536870912 ≡ nearest (n / 536870912) o
+        by Ordering·lt l = omega arith
+        by Ordering·eq l = omega arith
+        by Ordering·gt l = omega arith
+
+-- a multiple of 2 ^ 52 more is a multiple of 2 ^ 23 more
+moved-up : (k d : ℕ) → closest (k * 4503599627370496 + d) (2 ^ 29) ≡ k * 8388608 + closest d (2 ^ 29)
+moved-up k d =
+    let q : (k * 4503599627370496 + d) / 536870912 ≡ k * 8388608 + d / 536870912 = omega arith in
+    let r : (k * 4503599627370496 + d) % 536870912 ≡ d % 536870912 = omega arith in
+    ap (λ (x : ℕ). nearest x (compare ((k * 4503599627370496 + d) % 536870912 * 2) 536870912)) q
+    ∙ ap (λ (x : ℕ). nearest (k * 8388608 + d / 536870912) (compare (x * 2) 536870912)) r
+    ∙ up (d / 536870912) (compare (d % 536870912 * 2) 536870912)
+  where
+    up : (q : ℕ) (o : Ordering) → nearest (k * 8388608 + q) o ≡ k * 8388608 + nearest q o
+    up q Ordering·lt = refl
+    up q Ordering·eq = omega arith
+    up q Ordering·gt = omega arith
+
+-- what the tests leave
+pub record Everyday (b : ℕ) : Type 0 where
+  pub least : 0x3810000000000000 ≤ b % 9223372036854775808
+  pub most : b % 9223372036854775808 < 0x47effffff0000000
+
+pub everyday : (b : ℕ) → rare (b % 2 ^ 63) ≡ false → Everyday b
+everyday b h =
+    let m = b % 2 ^ 63 in
+    let t = or-false (ltb m 0x3810000000000000) (leb 0x47effffff0000000 m) h in
+    record {
+      least = nltb→le m 0x3810000000000000 (from-false (ltb m 0x3810000000000000) (t .0));
+      most = nleb→lt 0x47effffff0000000 m (from-false (leb 0x47effffff0000000 m) (t .1));
+    }
+
+module _ (b : ℕ) (E : Everyday b) where
+  abbrev moved : ℕ
+  moved = b % 9223372036854775808 - 4035225266123964416
+
+  abbrev pub kept : ℕ
+  kept = (moved + 268435455 + moved / 536870912 % 2) / 536870912
+
+  pub kept-lt : kept < 2139095040
+  kept-lt = let l = E .least in let h = E .most in omega arith
+
+  -- the exponent's field less 897, and the digits
+  abbrev over : ℕ
+  over = field binary64 b - 897
+
+  some : field binary64 b ≡ 0 → ⊥
+  some e = let l = E .least in omega arith
+
+  digits-are : digitsOf binary64 b ≡ b % 4503599627370496 + 4503599627370496
+  digits-are = sym (digits-some binary64 b some)
+
+  moved-is : moved ≡ over * 4503599627370496 + digitsOf binary64 b
+  moved-is = let l = E .least in split b l ∙ ap (λ (x : ℕ). over * 4503599627370496 + x) (sym digits-are)
+    where
+      split : (b : ℕ) → 0x3810000000000000 ≤ b % 9223372036854775808
+          → b % 9223372036854775808 - 4035225266123964416 ≡ (b % 9223372036854775808 / 4503599627370496 - 897) * 4503599627370496 + (b % 4503599627370496 + 4503599627370496)
+      split b l = omega arith
+
+  kept-is : kept ≡ over * 8388608 + closest (digitsOf binary64 b) (2 ^ 29)
+  kept-is = rounded-in-place moved ∙ ap (λ (x : ℕ). closest x (2 ^ 29)) moved-is ∙ moved-up over (digitsOf binary64 b)
+
+  powers-are : powerOf binary64 b + (149 + 29) ≡ 0 + (1074 + over)
+  powers-are = let l = E .least in go b l
+    where
+      go : (b : ℕ) → 0x3810000000000000 ≤ b % 9223372036854775808 → b % 9223372036854775808 / 4503599627370496 - 1 + (149 + 29) ≡ 0 + (1074 + (b % 9223372036854775808 / 4503599627370496 - 897))
+      go b l = omega arith
+
+  high-digit : 2 ^ 52 ≤ digitsOf binary64 b
+  high-digit = subst (λ (x : ℕ). 2 ^ 52 ≤ x) (sym digits-are) (omega arith)
+
+  pub everyday-is : (s : Bool) → ofBits binary32 (cond s 2147483648 0 + kept) ≡ round binary32 s (digitsOf binary64 b * 2 ^ powerOf binary64 b) (2 ^ 1074)
+  everyday-is s =
+      let d = digitsOf binary64 b in
+      ap (λ (x : ℕ). ofBits binary32 (cond s 2147483648 0 + x)) kept-is
+      ∙ sym (shifted-bits binary32 s (d * 2 ^ powerOf binary64 b) (2 ^ 1074) d 29 over (pow-pos 1074)
+      (same-power d (powerOf binary64 b) 149 1074 0 over 29 powers-are ∙ ap (λ (x : ℕ). x * (2 ^ 1074 * 2 ^ over)) (mul-one d))
+      (digits-lt binary64 b) (λ _. high-digit) (subst (λ (x : ℕ). x < 2139095040) kept-is kept-lt))
+
+-- the highest bit, as a number
+pub sign-bit : (b : ℕ) → b < 2 ^ 64 → b / 9223372036854775808 * 2147483648 ≡ cond (leb 9223372036854775808 b) 2147483648 0
+sign-bit b h = go (leb 9223372036854775808 b) (leb→le 9223372036854775808 b) (nleb→lt 9223372036854775808 b)
+  where
+    go : (t : Bool) → (T t → 9223372036854775808 ≤ b) → (T (not t) → b < 9223372036854775808) → b / 9223372036854775808 * 2147483648 ≡ cond t 2147483648 0
+    go true y n = let l = y tt in omega arith
+    go false y n = let l = n tt in omega arith

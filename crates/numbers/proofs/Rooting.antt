@@ -1,23 +1,28 @@
 -- The numbers of `root`, `sqrt_finite` and `sqrt`. Assumes nothing.
 use mathlib.Core.Path.{_≡_, refl, sym, ap, _∙_, subst}
-use mathlib.Core.Logic.{_⊎_, inl, inr}
-use Prim.Native.Nat.{ℕ, zero, suc, _+_, _-_, _*_, _/_, _%_, _^_, _≤_, _<_, zero-le}
-use native.Mathlib.Nat.{mul-left-comm, pow-succ', lt-of-not-le, not-le-of-lt, le-trans, le-of-eq, lt-of-lt-of-le, lt-of-le-of-lt, lt-irrefl, mul-le-mul-right, mul-lt-mul-of-pos-right, mul-assoc, mul-comm, mul-pos, mul-one, zero-mul, zero-lt-suc, eq-of-mul-eq-mul-right}
+use Prim.Native.Nat.{ℕ, zero, suc, _+_, _-_, _*_, _/_, _%_, _^_, _≤_, _<_}
+use native.Mathlib.Nat.{mul-left-comm, pow-succ', lt-of-not-le, not-le-of-lt, le-trans, le-of-eq, lt-of-lt-of-le, lt-irrefl, mul-le-mul-right, mul-lt-mul-of-pos-right, mul-assoc, mul-pos, mul-one, zero-mul, zero-lt-suc, eq-of-mul-eq-mul-right, mod-eq-of-lt}
 use native.Mathlib.Omega.{arith}
-use mathlib.Core.Bool.{Bool, Bool·beq, true, false, not, _&&_, _||_, cond, false≢true, true≢false}
+use mathlib.Core.Bool.{Bool, Bool·beq, true, false, not, _&&_, _||_, cond, false≢true}
 use lib.IntN.{ℤ, pos}
-use lib.Dec.{T, leb, leb→le, lit≤, lit<, eqb, eqb→eq}
-use lib.Pow.{pow-add, pow-pos, pow-mono, pow-lt, shl-lt}
+use lib.Dec.{T, leb, leb→le, le→leb, nleb→lt, lit≤, eqb, eqb→eq, not-T}
+use lib.Arith.{lt→nleb}
+use lib.Pow.{pow-add, pow-pos, pow-mono, shl-lt}
 use lib.Count.{leadingZeros, leading-top}
-use lib.Ieee.{Float, nan, inf, fin, Format, binary32, binary64, prec, low, hid, ones, top, up, down, ne, eq, ofBits, toBits, fits, isNan}
-use lib.Ieee.Fits.{up-pos, down-pos, and-l}
-use lib.Ieee.Bits.{ofBits-toBits}
+use lib.Ieee.{Float, nan, inf, fin, Format, binary32, binary64, prec, low, hid, ones, top, up, down, ne, eq, isNan, ofBits, toBits, fits}
+use lib.Ieee.Fits.{up-pos, down-pos, and-l, eq→eqb}
+use lib.Ieee.Bits.{ofBits-toBits, is-true, is-false}
 use lib.Ieee.Compare.{differs-from-itself}
 use lib.Ieee.Exact.{HasValue}
+use lib.Ieee.Positive.{first-pos}
 use Rattle.numbers.specs.Root.{roundRoot, sqrtOf}
 use Rattle.numbers.specs.Numbers.{signOf}
 use Rattle.numbers.specs.Roots.{rooted-bits, half-most, roundRoot-same}
-use Rattle.laws.specs.FloatParts.{bits-inf}
+use Rattle.laws.specs.FloatParts.{field, digitsOf, powerOf, bits-inf, finite-field, float-value, digits-lt}
+use Rattle.numbers.specs.Laws.{ne-self, sign-is}
+use Rattle.numbers.specs.Fractions.{radicandOf}
+use Rattle.numbers.specs.declared.root.Radicand.{Radicand}
+use Rattle.numbers.specs.declared.root.Radicand.the-variants.{Itself, Negative, Digits}
 
 -- ---- a digit
 pub digit-le : (b : Bool) (g : ℕ) → g ≡ cond b 1 0 → g ≤ 1
@@ -231,3 +236,108 @@ sqrt-value f nan a c A C v = absurd v
 sqrt-value f (inf t) a c A C v = absurd v
 sqrt-value f (fin t zero e) a c A C v = absurd (lt-irrefl 0 (subst (λ (x : ℕ). 0 < x) (sym (v .1) ∙ ap (λ (x : ℕ). x * c) (zero-mul (up e)) ∙ zero-mul c) (mul-pos A (down-pos e))))
 sqrt-value f (fin t (suc m) e) a c A C v = ap (λ (b : Bool). cond b nan (roundRoot f (suc m * up e) (down e))) (v .0) ∙ roundRoot-same f (suc m * up e) (down e) a c (down-pos e) C (v .1)
+
+-- ---- by what the root is taken of
+module _ (f : Format) (x : Float) where
+  abbrev bits : ℕ
+  bits = toBits f x
+
+  -- as the code's tests decide it
+  module _ (n : ne x x ≡ false) where
+    pub zero-itself : eq x (fin false 0 (pos 0)) ≡ true → Itself ≡ radicandOf f x
+    unfolding radicandOf
+    zero-itself z = rw (sym (ne-self x) ∙ n, z)
+
+    module _ (z : eq x (fin false 0 (pos 0)) ≡ false) where
+      pub sign-negative : top f ≤ bits → Negative ≡ radicandOf f x
+      unfolding radicandOf
+      sign-negative l = rw (sym (ne-self x) ∙ n, z, is-true (leb (top f) bits) (le→leb (top f) bits l))
+
+      pub infinity-itself : bits < top f → bits ≡ ones f * hid f → Itself ≡ radicandOf f x
+      unfolding radicandOf
+      infinity-itself l i = rw (sym (ne-self x) ∙ n, z, is-false (leb (top f) bits) (lt→nleb (top f) bits l), is-true (eqb bits (ones f * hid f)) (eq→eqb i))
+
+      pub digits-read : (d p : ℕ) → bits < top f → (bits ≡ ones f * hid f → ⊥) → d ≡ digitsOf f bits → p ≡ powerOf f bits → Digits d p ≡ radicandOf f x
+      unfolding radicandOf
+      digits-read d p l i e g =
+          rw (sym (ne-self x) ∙ n, z, is-false (leb (top f) bits) (lt→nleb (top f) bits l), is-false (eqb bits (ones f * hid f)) (not-T (eqb bits (ones f * hid f)) (λ t. i (eqb→eq bits (ones f * hid f) t))))
+          (ap (λ (k : ℕ). Digits k p) e ∙ ap (Digits (digitsOf f bits)) g)
+
+  pub nan-itself : ne x x ≡ true → Itself ≡ radicandOf f x
+  unfolding radicandOf
+  nan-itself h = rw (sym (ne-self x) ∙ h)
+
+  -- the five ways to come by it
+  data Way : Radicand → Type 0 where
+    none : T (isNan x) → Way Itself
+    nought : eq x (fin false 0 (pos 0)) ≡ true → Way Itself
+    below : T (not (isNan x)) → eq x (fin false 0 (pos 0)) ≡ false → top f ≤ bits → Way Negative
+    endless : bits ≡ ones f * hid f → Way Itself
+    above : T (not (isNan x)) → eq x (fin false 0 (pos 0)) ≡ false → bits < top f → (bits ≡ ones f * hid f → ⊥) → Way (Digits (digitsOf f bits) (powerOf f bits))
+
+  way : Way (radicandOf f x)
+  unfolding radicandOf
+  way = go (isNan x) (eq x (fin false 0 (pos 0))) (leb (top f) bits) (eqb bits (ones f * hid f)) refl none nought below endless above (leb→le (top f) bits) (nleb→lt (top f) bits) (eqb→eq bits (ones f * hid f)) (λ (e : bits ≡ ones f * hid f). eq→eqb e)
+    where
+      go : (n z s i : Bool) → eq x (fin false 0 (pos 0)) ≡ z → (T n → Way Itself) → (eq x (fin false 0 (pos 0)) ≡ true → Way Itself) → (T (not n) → eq x (fin false 0 (pos 0)) ≡ false → top f ≤ bits → Way Negative)
+          → (bits ≡ ones f * hid f → Way Itself) → (T (not n) → eq x (fin false 0 (pos 0)) ≡ false → bits < top f → (bits ≡ ones f * hid f → ⊥) → Way (Digits (digitsOf f bits) (powerOf f bits)))
+          → (T s → top f ≤ bits) → (T (not s) → bits < top f) → (T i → bits ≡ ones f * hid f) → (bits ≡ ones f * hid f → T i)
+          → Way (cond n Itself (cond z Itself (cond s Negative (cond i Itself (Digits (digitsOf f bits) (powerOf f bits))))))
+      go true z s i e a b c d g h k l m = a tt
+      go false true s i e a b c d g h k l m = b e
+      go false false true i e a b c d g h k l m = c tt e (h tt)
+      go false false false true e a b c d g h k l m = d (l tt)
+      go false false false false e a b c d g h k l m = g tt e (k tt) m
+
+  -- what it makes, and that it is `sqrtOf`
+  abbrev pub made : Radicand → Float
+  made Itself = x
+  made Negative = nan
+  made (Digits d p) = roundRoot f (d * 2 ^ p) (2 ^ low f)
+
+  -- the digits fit the format, are above zero, and stand below the infinity
+  abbrev pub Bounded : Radicand → Type 0
+  Bounded Itself = Unit
+  Bounded Negative = Unit
+  Bounded (Digits d p) = (0 < d) × ((d < 2 ^ prec f) × (p ≤ ones f - 2))
+
+  module _ (F : T (fits f x)) where
+    module _ (n : T (not (isNan x))) (z : eq x (fin false 0 (pos 0)) ≡ false) (l : bits < top f) (i : bits ≡ ones f * hid f → ⊥) where
+      in-field : field f bits < ones f
+      in-field = finite-field f x F n (λ e. i (sym (mod-eq-of-lt l) ∙ e))
+
+      value : HasValue x false (digitsOf f bits * 2 ^ powerOf f bits) (2 ^ low f)
+      value = subst (λ (b : Bool). HasValue x b (digitsOf f bits * 2 ^ powerOf f bits) (2 ^ low f)) (is-false (leb (top f) bits) (lt→nleb (top f) bits l)) (float-value f x F in-field)
+
+      more : 0 < digitsOf f bits * 2 ^ powerOf f bits
+      more = nonzero x false (digitsOf f bits * 2 ^ powerOf f bits) (2 ^ low f) z (pow-pos (low f)) value
+
+    made-root : made (radicandOf f x) ≡ sqrtOf f x
+    made-root = go (radicandOf f x) way
+      where
+        go : (r : Radicand) → Way r → made r ≡ sqrtOf f x
+        go r (none n) = sqrt-nan f x (ne-self x ∙ is-true (isNan x) n)
+        go r (nought z) = sqrt-zero f x z
+        go r (below n z s) = sqrt-neg f x (sym (sign-is f x F n) ∙ is-true (leb (top f) bits) (le→leb (top f) bits s)) z
+        go r (endless i) = sqrt-inf f f x F i
+        go r (above n z l i) = sym (sqrt-value f x (digitsOf f bits * 2 ^ powerOf f bits) (2 ^ low f) (more n z l i) (pow-pos (low f)) (value n z l i))
+
+    bounded : Bounded (radicandOf f x)
+    bounded = go (radicandOf f x) way
+      where
+        power-le : (x o : ℕ) → x < o → x - 1 ≤ o - 2
+        power-le x o h = omega arith
+
+        go : (r : Radicand) → Way r → Bounded r
+        go r (none n) = tt
+        go r (nought z) = tt
+        go r (below n z s) = tt
+        go r (endless i) = tt
+        go r (above n z l i) = (first-pos (digitsOf f bits) (2 ^ powerOf f bits) (more n z l i), (digits-lt f bits, power-le (field f bits) (ones f) (in-field n z l i)))
+
+    -- the same, from what a match learns
+    pub root-made : (r : Radicand) → radicandOf f x ≡ r → made r ≡ sqrtOf f x
+    root-made r e = sym (ap made e) ∙ made-root
+
+    pub root-bounded : (r : Radicand) → radicandOf f x ≡ r → Bounded r
+    root-bounded r e = subst Bounded e bounded

@@ -2,23 +2,27 @@
 use mathlib.Core.Path.{_≡_, refl, sym, ap, _∙_, subst}
 use mathlib.Core.Logic.{_⊎_, inl, inr}
 use Prim.Native.Nat.{ℕ, zero, suc, _+_, _-_, _*_, _/_, _%_, _^_, _≤_, _<_, compare, min}
-use native.Mathlib.Nat.{div-le-self, div-add-mod', zero-mul, zero-add, add-zero, le-trans, le-of-eq, le-of-lt, lt-of-lt-of-le, lt-of-le-of-lt, mul-one, one-mul, mul-comm, mul-assoc, mul-left-comm, mul-right-comm, mul-pos, add-mul, zero-lt-suc, div-one, mod-one, div-eq-of-lt, mod-eq-of-lt, pow-succ', eq-of-mul-eq-mul-right, le-of-suc-le-suc, lt-irrefl}
+use native.Mathlib.Nat.{div-le-self, div-add-mod', zero-mul, zero-add, add-zero, le-trans, le-of-lt, lt-of-lt-of-le, lt-of-le-of-lt, mul-one, mul-comm, mul-assoc, mul-right-comm, mul-pos, add-mul, zero-lt-suc, div-one, mod-one, div-eq-of-lt, mod-eq-of-lt, eq-of-mul-eq-mul-right, lt-irrefl}
 use native.Mathlib.Omega.{arith}
 use mathlib.Core.Bool.{Bool, true, false, not, cond, false≢true}
-use lib.IntN.{ℤ, pos, negsuc}
-use lib.Dec.{T, eqb, eqb→eq, leb, ltb, ltb→lt, nltb→le, lit≤}
-use lib.Pow.{pow-add, pow-pos, pow-mono, pow-lt, shl-lt, shr-lt}
-use lib.Ieee.{Float, nan, inf, fin, Format, binary32, binary64, prec, emax, low, hid, ones, top, up, down, odd, units, size, nearest, round, neg, ne, isNan, fits, ofInt, ofBits, toBits}
+use lib.Dec.{T, eqb, eqb→eq, leb, leb→le, le→leb, nleb→lt, ltb, lit≤}
+use lib.Pow.{pow-add, pow-pos, pow-mono, shl-lt}
+use lib.Ieee.{Float, nan, inf, fin, Format, binary32, binary64, prec, emax, low, hid, ones, top, up, down, odd, units, size, nearest, round, neg, ne, isNan, fits, toBits}
 use lib.Ieee.Fits.{eq→eqb, down-pos, round-fits, nearest-le}
 use lib.Ieee.Exact.{HasValue, round-exact}
 use lib.Ieee.Back.{whole-unique}
-use lib.Ieee.Bits.{ofBits-toBits}
+use lib.Ieee.Bits.{ofBits-toBits, is-true, is-false}
 use lib.Ieee.Compare.{differs-from-itself}
 use lib.Ieee.Nearest.{closest, closest-same, div-same}
 use Rattle.numbers.specs.Numbers.{wholeOf, away, toEven, downward}
 use Rattle.laws.specs.FloatParts.{field, digitsOf, powerOf}
 use Rattle.laws.specs.FloatParts.{finite-field, float-value, digits-lt, bits-inf}
+use lib.Arith.{lt→nleb}
 use Rattle.numbers.specs.Shift.{near-lt}
+use Rattle.numbers.specs.Laws.{ne-self}
+use Rattle.numbers.specs.Fractions.{fractionOf}
+use Rattle.numbers.specs.declared.whole.Fraction.{Fraction}
+use Rattle.numbers.specs.declared.whole.Fraction.the-variants.{Nothing, Parts}
 
 -- ---- -x of a rounded value
 neg-odd : (d : ℕ) (s : Bool) (q k l : ℕ) → neg (odd d s q k l) ≡ odd d (not s) q k l
@@ -93,9 +97,19 @@ down-still true n = ap (λ (x : ℕ). n / 1 + min 1 x) (mod-one n) ∙ add-zero 
 pub down-is : Rounding downward
 down-is = record { alike = down-alike; still = down-still }
 
-pub down-le : (s : Bool) (d u : ℕ) → d < 2 ^ 53 → downward s d u ≤ 2 ^ 53
-down-le false d u h = omega (arith, div-le-self d u)
-down-le true d u h = omega (arith, div-le-self d u)
+pub down-le : (f : Format) (s : Bool) (d u : ℕ) → d < 2 ^ prec f → downward s d u ≤ 2 ^ prec f
+down-le f false d u h = le-trans (div-le-self d u) (le-of-lt h)
+down-le f true d u h = go (2 ^ prec f) (d / u) (min 1 (d % u)) (div-le-self d u) (one (d % u)) h
+  where
+    one : (r : ℕ) → min 1 r ≤ 1
+    one r = omega arith
+
+    go : (t q m : ℕ) → q ≤ d → m ≤ 1 → d < t → q + m ≤ t
+    go t q m a b h = omega arith
+
+-- and to the nearest
+pub even-le : (d u : ℕ) → d < 2 ^ 53 → 2 ≤ u → closest d u ≤ 2 ^ 53
+even-le d u h U = le-trans (nearest-le (d / u) (compare (d % u * 2) u)) (lt-of-le-of-lt (div-le-self d u) h)
 
 pub down-far : (s : Bool) (d sh r : ℕ) → d < 2 ^ 53 → 64 ≤ sh → (s ≡ true → r ≡ min 1 d) → (s ≡ false → r ≡ 0) → r ≡ downward s d (2 ^ sh)
 down-far false d sh r h l y n = n refl ∙ sym (div-eq-of-lt (lt-of-lt-of-le h (pow-mono {i = 53} (le-trans (lit≤ tt) l))))
@@ -187,3 +201,78 @@ whole-small g R f x F h l =
 pub small-field : (f : Format) (b : ℕ) → powerOf f b < low f → field f b < ones f
 small-field binary32 b h = omega arith
 small-field binary64 b h = omega arith
+
+-- ---- by the digits below the point
+module _ (f : Format) (x : Float) where
+  abbrev bits : ℕ
+  bits = toBits f x
+
+  pub nothing-nan : ne x x ≡ true → Nothing ≡ fractionOf f x
+  unfolding fractionOf
+  nothing-nan h = rw (sym (ne-self x) ∙ h)
+
+  pub nothing-big : (p : ℕ) → ne x x ≡ false → p ≡ powerOf f bits → low f ≤ p → Nothing ≡ fractionOf f x
+  unfolding fractionOf
+  nothing-big p h e l = rw (sym (ne-self x) ∙ h, is-true (leb (low f) (powerOf f bits)) (le→leb (low f) (powerOf f bits) (subst (λ (q : ℕ). low f ≤ q) e l)))
+
+  pub parts-small : (p d : ℕ) → ne x x ≡ false → p ≡ powerOf f bits → p < low f → d ≡ digitsOf f bits → Parts (leb (top f) bits) d (low f - p) ≡ fractionOf f x
+  unfolding fractionOf
+  parts-small p d h e l g =
+      rw (sym (ne-self x) ∙ h, is-false (leb (low f) (powerOf f bits)) (lt→nleb (low f) (powerOf f bits) (subst (λ (q : ℕ). q < low f) e l)))
+      (ap (λ (q : ℕ). Parts (leb (top f) bits) d (low f - q)) e ∙ ap (λ (q : ℕ). Parts (leb (top f) bits) q (low f - powerOf f bits)) g)
+
+  -- the three ways to come by it
+  data Way : Fraction → Type 0 where
+    none : T (isNan x) → Way Nothing
+    big : T (not (isNan x)) → low f ≤ powerOf f bits → Way Nothing
+    small : T (not (isNan x)) → powerOf f bits < low f → Way (Parts (leb (top f) bits) (digitsOf f bits) (low f - powerOf f bits))
+
+  way : Way (fractionOf f x)
+  unfolding fractionOf
+  way = go (isNan x) (leb (low f) (powerOf f bits)) none big small (leb→le (low f) (powerOf f bits)) (nleb→lt (low f) (powerOf f bits))
+    where
+      go : (t u : Bool) → (T t → Way Nothing) → (T (not t) → low f ≤ powerOf f bits → Way Nothing) → (T (not t) → powerOf f bits < low f → Way (Parts (leb (top f) bits) (digitsOf f bits) (low f - powerOf f bits)))
+          → (T u → low f ≤ powerOf f bits) → (T (not u) → powerOf f bits < low f)
+          → Way (cond t Nothing (cond u Nothing (Parts (leb (top f) bits) (digitsOf f bits) (low f - powerOf f bits))))
+      go true u a b c h k = a tt
+      go false true a b c h k = b tt (h tt)
+      go false false a b c h k = c tt (k tt)
+
+  -- what the digits make, and that it is `wholeOf`
+  abbrev pub made : (Bool → ℕ → ℕ → ℕ) → Fraction → Float
+  made g Nothing = x
+  made g (Parts s d shift) = round f s (g s d (2 ^ shift)) 1
+
+  pub made-whole : (g : Bool → ℕ → ℕ → ℕ) → Rounding g → T (fits f x) → made g (fractionOf f x) ≡ wholeOf g f x
+  made-whole g R F = go (fractionOf f x) way
+    where
+      go : (r : Fraction) → Way r → made g r ≡ wholeOf g f x
+      go r (none n) = whole-nan g f x (ne-self x ∙ is-true (isNan x) n)
+      go r (big n l) = whole-big g R f x F n l
+      go r (small n l) = whole-small g R f x F (small-field f bits l) l
+
+  -- the digits fit the format, and some are below the point
+  abbrev pub Bounded : Fraction → Type 0
+  Bounded Nothing = Unit
+  Bounded (Parts s d shift) = (d < 2 ^ prec f) × (0 < shift)
+
+  pub bounded : Bounded (fractionOf f x)
+  bounded = go (fractionOf f x) way
+    where
+      more : (a b : ℕ) → b < a → 0 < a - b
+      more a b h = omega arith
+
+      go : (r : Fraction) → Way r → Bounded r
+      go r (none n) = tt
+      go r (big n l) = tt
+      go r (small n l) = (digits-lt f bits, more (low f) (powerOf f bits) l)
+
+  -- the same, from what a match learns
+  pub made-nothing : (g : Bool → ℕ → ℕ → ℕ) → Rounding g → T (fits f x) → fractionOf f x ≡ Nothing → x ≡ wholeOf g f x
+  made-nothing g R F h = sym (ap (made g) h) ∙ made-whole g R F
+
+  pub made-parts : (g : Bool → ℕ → ℕ → ℕ) → Rounding g → T (fits f x) → (s : Bool) (d shift : ℕ) → fractionOf f x ≡ Parts s d shift → round f s (g s d (2 ^ shift)) 1 ≡ wholeOf g f x
+  made-parts g R F s d shift h = sym (ap (made g) h) ∙ made-whole g R F
+
+  pub parts-bounded : (s : Bool) (d shift : ℕ) → fractionOf f x ≡ Parts s d shift → (d < 2 ^ prec f) × (0 < shift)
+  parts-bounded s d shift h = subst Bounded h bounded

@@ -1,13 +1,11 @@
 -- A root in binary64, narrowed to binary32, does not pass a value v of binary32: where v * v is at most s, v is at most the result, and where it is at least s, at least it.
 -- So the exact root of s lies strictly between the result's two neighbours. This is the last half of the f32 hypotenuse. Assumes nothing.
-use mathlib.Core.Path.{_≡_, refl, sym, ap, _∙_, subst}
-use mathlib.Core.Logic.{_⊎_, inl, inr}
-use Prim.Native.Nat.{ℕ, zero, suc, _+_, _*_, _^_, _≤_, _<_}
-use native.Mathlib.Nat.{lt-irrefl, zero-lt-suc}
-use mathlib.Core.Bool.{Bool, true, false, not, cond, true≢false}
-use lib.IntN.{ℤ, pos, negsuc}
-use lib.Dec.{T, ltb, ltb→lt}
-use lib.Ieee.{Float, nan, inf, fin, Format, binary32, binary64, prec, emax, low, up, down, odd, units, round, le, fits}
+use mathlib.Core.Path.{_≡_, refl, sym, subst}
+use Prim.Native.Nat.{ℕ, zero, suc, _*_, _≤_, _<_}
+use native.Mathlib.Nat.{lt-irrefl}
+use mathlib.Core.Bool.{true, false}
+use lib.Dec.{T, ltb→lt}
+use lib.Ieee.{Float, nan, inf, fin, Format, binary32, binary64, up, down, le, fits}
 use lib.Ieee.Fits.{fits-widens}
 use lib.Ieee.Positive.{num, den, den-pos, positive}
 use Rattle.numbers.specs.Numbers.{convert}
@@ -53,7 +51,7 @@ keeps-over f v (fin true m e) p F u h = absurd u
 keeps-over f v (fin false m e) p F u h = round-most f (m * up e) (down e) v (den-pos (fin false m e)) p F (le→cross (fin false m e) v tt p h)
 
 -- ---- s is above zero
-sqrt-is : (f : Format) (s : Float) → T (positive s) → sqrtOf f s ≡ roundRoot f (num s) (den s)
+pub sqrt-is : (f : Format) (s : Float) → T (positive s) → sqrtOf f s ≡ roundRoot f (num s) (den s)
 unfolding sqrtOf
 sqrt-is f nan p = absurd p
 sqrt-is f (inf t) p = absurd p

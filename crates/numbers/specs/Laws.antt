@@ -1,15 +1,14 @@
 -- What tests, signs and patterns say of a float, and `minOf`, `maxOf`, `clampOf` and `convert` case by case. Assumes nothing.
 use mathlib.Core.Path.{_≡_, refl, sym, ap, _∙_, subst}
-use mathlib.Core.Logic.{_⊎_, inl, inr}
-use Prim.Native.Nat.{ℕ, zero, suc, _+_, _-_, _*_, _/_, _%_, _^_, _≤_, _<_}
+use Prim.Native.Nat.{ℕ, zero, suc, _+_, _*_, _/_, _%_, _<_}
 use lib.Ieee.Scale.{round-same}
 use lib.Ieee.Compare.{differs-from-itself}
 use native.Mathlib.Nat.{mod-eq-of-lt, add-mod-left}
 use native.Mathlib.Omega.{arith}
-use mathlib.Core.Bool.{Bool, true, false, not, _&&_, _||_, Bool·beq, cond, false≢true}
-use lib.IntN.{ℤ, pos, negsuc}
-use lib.Dec.{T, leb, ltb, eqb, eqb-refl, lt→ltb, eqb→eq, ltb→lt, nltb→le}
-use lib.Ieee.{Float, nan, inf, fin, Format, binary32, binary64, prec, low, up, down, top, hid, ones, odd, ofFields, ofBits, toBits, neg, sub, add, sum, round, lt, eq, ne, isNan, fits, nanBits}
+use mathlib.Core.Bool.{Bool, true, false, not, _&&_, _||_, Bool·beq, cond, true≢false}
+use lib.IntN.{ℤ, pos}
+use lib.Dec.{T, leb, eqb, eqb-refl}
+use lib.Ieee.{Float, nan, inf, fin, Format, binary32, binary64, prec, low, up, down, top, hid, ones, odd, ofFields, ofBits, toBits, neg, sub, round, lt, eq, ne, isNan, fits, nanBits}
 use lib.Ieee.Bits.{ofBits-toBits, is-true, toBits-lt, nanBits-is}
 use lib.Ieee.Fits.{down-pos, inf-fits, neg-fits}
 use lib.Ieee.Exact.{HasValue}
@@ -17,6 +16,15 @@ use Rattle.laws.specs.FloatSums.{sub-same}
 use Rattle.laws.specs.FloatParts.{bits-inf}
 use Rattle.laws.specs.FloatValues.{round-id}
 use Rattle.numbers.specs.Numbers.{absOf, signOf, isFinite, minOf, maxOf, clampOf, convert}
+
+-- ---- tests
+pub from-false : (b : Bool) → b ≡ false → T (not b)
+from-false true e = absurd (true≢false e)
+from-false false e = tt
+
+pub or-false : (a b : Bool) → (a || b) ≡ false → (a ≡ false) × (b ≡ false)
+or-false true b e = absurd (true≢false e)
+or-false false b e = (refl, e)
 
 level-self : (s : Bool) (a : ℕ) → (eqb a a && (Bool·beq s s || eqb a 0)) ≡ true
 level-self true a = ap (λ (b : Bool). b && true) (is-true (eqb a a) (eqb-refl a))

@@ -1,7 +1,13 @@
 pub mod Numbers
 pub mod Root
+pub mod Fractions
+pub mod Bits
+pub mod BitsLaws
 pub mod Laws
 pub mod Shift
 pub mod Roots
 pub mod RootOrder
 pub mod Faithful
+pub mod Nearest
+pub mod Halves
+pub mod NearestLaws

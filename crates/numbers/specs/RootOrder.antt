@@ -1,9 +1,9 @@
 -- `roundRoot` is the rounding of the exact root: of every fraction that is at most the root the rounded value is at most `roundRoot`, and of every fraction that is at least the root it is at least that.
 -- a / b ≤ √(num / den) is said by whole-number squares: a * a * den ≤ num * (b * b). Assumes nothing.
 use mathlib.Core.Path.{_≡_, refl, sym, ap, _∙_, subst}
-use mathlib.Core.Logic.{_⊎_, inl, inr}
-use Prim.Native.Nat.{ℕ, zero, suc, _+_, _-_, _*_, _/_, _%_, _^_, _≤_, _<_, zero-le, compare, Ordering, Ordering·lt, Ordering·eq, Ordering·gt}
-use native.Mathlib.Nat.{mul-le-mul-left, le-of-suc-le-suc, le-refl, le-suc, le-trans, le-of-eq, le-of-lt, lt-of-lt-of-le, lt-of-le-of-lt, lt-of-not-le, not-le-of-lt, lt-irrefl, eq-or-lt-of-le, zero-lt-suc, mul-le-mul, mul-le-mul-right, mul-lt-mul-of-pos-right, le-of-mul-le-mul-right, lt-of-mul-lt-mul-right, mul-pos, mul-comm, mul-assoc, mul-left-comm, mul-right-comm, mul-mul-mul-comm, div-lt-iff-lt-mul, le-div-iff-mul-le, div-mul-le-self, div-add-mod', div-div-eq-div-mul, pow-suc}
+use mathlib.Core.Logic.{inl, inr}
+use Prim.Native.Nat.{ℕ, suc, _+_, _-_, _*_, _/_, _%_, _^_, _≤_, _<_, zero-le, compare, Ordering, Ordering·lt, Ordering·eq, Ordering·gt}
+use native.Mathlib.Nat.{mul-le-mul-left, le-of-suc-le-suc, le-refl, le-trans, le-of-eq, le-of-lt, lt-of-lt-of-le, lt-of-le-of-lt, lt-of-not-le, not-le-of-lt, eq-or-lt-of-le, mul-le-mul, mul-le-mul-right, mul-lt-mul-of-pos-right, le-of-mul-le-mul-right, lt-of-mul-lt-mul-right, mul-pos, mul-assoc, mul-right-comm, mul-mul-mul-comm, div-lt-iff-lt-mul, le-div-iff-mul-le, div-mul-le-self, div-add-mod', div-div-eq-div-mul}
 use native.Mathlib.Omega.{arith}
 use mathlib.Core.Bool.{Bool, true, false, not, cond, true≢false}
 use lib.Dec.{T, ltb, ltb→lt, nltb→le}
@@ -16,9 +16,9 @@ use lib.Ieee.Nearest.{closest, nearest-ge}
 use lib.Ieee.Order.{drop, kept, le-of-values}
 use Rattle.numbers.specs.Root.{isqrt, closestRoot, roundRoot}
 use Rattle.numbers.specs.Shift.{Cmp, cmp}
-use Rattle.numbers.specs.Roots.{Root, isqrt-is, closestRoot-is, root-at-least}
+use Rattle.numbers.specs.Roots.{isqrt-is, closestRoot-is, root-at-least}
 
-square-lt : (a b : ℕ) → a * a < b * b → a < b
+pub square-lt : (a b : ℕ) → a * a < b * b → a < b
 square-lt a b h = lt-of-not-le (λ (g : b ≤ a). not-le-of-lt h (mul-le-mul g g))
 
 -- ---- a fraction x / y and the root √(a / b)
@@ -181,22 +181,22 @@ closest-over x y a b Y B h =
     past x y w r e h = omega arith
 
 -- ---- the numbers kept: `kept` of Order for a fraction, and this for a root
-abbrev dropR : ℕ → ℕ → ℕ → ℕ
+abbrev pub dropR : ℕ → ℕ → ℕ → ℕ
 dropR p n den = size (isqrt (n / den)) - p
 
-abbrev keptR : ℕ → ℕ → ℕ → ℕ
+abbrev pub keptR : ℕ → ℕ → ℕ → ℕ
 keptR p n den = closestRoot n (den * 2 ^ (dropR p n den + dropR p n den))
 
-kept-le : (p n den : ℕ) → kept p n den ≤ 2 ^ p
+pub kept-le : (p n den : ℕ) → kept p n den ≤ 2 ^ p
 kept-le p n den =
     let k = drop p n den in
     let u = den * 2 ^ k in
     le-trans (nearest-le (n / u) (compare (n % u * 2) u)) (subst (λ (x : ℕ). x < 2 ^ p) (div-div-eq-div-mul n den (2 ^ k)) (kept-lt p (n / den)))
 
-all-in-use : (z p : ℕ) → 0 < p → 0 < z - p → p - 1 + (z - p) < z
+pub all-in-use : (z p : ℕ) → 0 < p → 0 < z - p → p - 1 + (z - p) < z
 all-in-use z p P h = omega arith
 
-kept-ge : (p n den : ℕ) → 0 < p → 0 < drop p n den → 2 ^ (p - 1) ≤ kept p n den
+pub kept-ge : (p n den : ℕ) → 0 < p → 0 < drop p n den → 2 ^ (p - 1) ≤ kept p n den
 kept-ge p n den P K =
     let k = drop p n den in
     let u = den * 2 ^ k in
@@ -204,10 +204,10 @@ kept-ge p n den P K =
     let a : 2 ^ (p - 1) * 2 ^ k ≤ w = le-trans (le-of-eq (sym (pow-add 2 (p - 1) k))) (size-reaches w (p - 1 + k) (all-in-use (size w) p P K)) in
     le-trans (subst (λ (x : ℕ). 2 ^ (p - 1) ≤ x) (div-div-eq-div-mul n den (2 ^ k)) (le-div-iff-mul-le (pow-pos k) .1 a)) (nearest-ge (n / u) (compare (n % u * 2) u))
 
-squares : (i j : ℕ) → 2 ^ (i + j) * 2 ^ (i + j) ≡ 2 ^ i * 2 ^ i * 2 ^ (j + j)
+pub squares : (i j : ℕ) → 2 ^ (i + j) * 2 ^ (i + j) ≡ 2 ^ i * 2 ^ i * 2 ^ (j + j)
 squares i j = ap (λ (x : ℕ). x * x) (pow-add 2 i j) ∙ mul-mul-mul-comm (2 ^ i) (2 ^ j) (2 ^ i) (2 ^ j) ∙ ap (λ (x : ℕ). 2 ^ i * 2 ^ i * x) (sym (pow-add 2 j j))
 
-keptR-le : (p n den : ℕ) → keptR p n den ≤ 2 ^ p
+pub keptR-le : (p n den : ℕ) → keptR p n den ≤ 2 ^ p
 keptR-le p n den =
     let k = dropR p n den in
     let R = isqrt (n / den) in
@@ -224,7 +224,7 @@ keptR-le p n den =
     cover : (z p : ℕ) → z ≤ p + (z - p)
     cover z p = omega arith
 
-keptR-ge : (p n den : ℕ) → 0 < p → 0 < dropR p n den → 2 ^ (p - 1) ≤ keptR p n den
+pub keptR-ge : (p n den : ℕ) → 0 < p → 0 < dropR p n den → 2 ^ (p - 1) ≤ keptR p n den
 keptR-ge p n den P K =
     let k = dropR p n den in
     let R = isqrt (n / den) in
@@ -310,7 +310,7 @@ units-mono f q j r k h =
     go false false a b = unfold le in tt
 
 -- ---- the two theorems
-roundRoot-is : (f : Format) (num den : ℕ) → roundRoot f num den ≡ units f false (keptR (prec f) (num * 2 ^ (low f + low f)) den) (dropR (prec f) (num * 2 ^ (low f + low f)) den)
+pub roundRoot-is : (f : Format) (num den : ℕ) → roundRoot f num den ≡ units f false (keptR (prec f) (num * 2 ^ (low f + low f)) den) (dropR (prec f) (num * 2 ^ (low f + low f)) den)
 unfolding roundRoot
 roundRoot-is f num den = refl
 

@@ -2,19 +2,19 @@
 use mathlib.Core.Path.{_≡_, refl, sym, ap, _∙_, subst}
 use mathlib.Core.Logic.{_⊎_, inl, inr}
 use Prim.Native.Nat.{ℕ, zero, suc, _+_, _-_, _*_, _/_, _%_, _^_, _≤_, _<_, zero-le, compare, Ordering, Ordering·lt, Ordering·eq, Ordering·gt}
-use native.Mathlib.Nat.{zero-add, le-refl, le-trans, le-of-eq, le-of-lt, lt-of-lt-of-le, lt-of-le-of-lt, lt-of-not-le, not-le-of-lt, le-antisymm, le-of-suc-le-suc, zero-lt-suc, lt-irrefl, mul-le-mul, mul-le-mul-right, mul-lt-mul-of-pos-right, le-of-mul-le-mul-right, lt-of-mul-lt-mul-right, mul-pos, mul-comm, mul-assoc, mul-left-comm, mul-right-comm, mul-mul-mul-comm, div-lt-iff-lt-mul, le-div-iff-mul-le, div-mul-le-self, pow-suc}
+use native.Mathlib.Nat.{zero-add, le-refl, le-trans, le-of-eq, lt-of-lt-of-le, lt-of-le-of-lt, lt-of-not-le, not-le-of-lt, le-antisymm, zero-lt-suc, mul-le-mul, mul-le-mul-right, mul-lt-mul-of-pos-right, le-of-mul-le-mul-right, lt-of-mul-lt-mul-right, mul-pos, mul-assoc, mul-right-comm, div-lt-iff-lt-mul, le-div-iff-mul-le, pow-suc}
 use native.Mathlib.Omega.{arith}
 use mathlib.Core.Bool.{Bool, true, false, not, cond}
 use lib.Dec.{T, leb, leb→le, nleb→lt, lit≤}
 use lib.Arith.{lt-of-le-ne}
-use lib.Pow.{pow-add, pow-pos, pow-mono, pow-lt}
-use lib.Ieee.{Float, Format, binary32, binary64, prec, low, size, nearest, units}
-use lib.Ieee.Digits.{size-lt, size-le, size-reaches}
+use lib.Pow.{pow-add, pow-pos, pow-mono}
+use lib.Ieee.{Format, binary32, binary64, prec, low, size, nearest, units}
+use lib.Ieee.Digits.{size-lt, size-le}
 use lib.Ieee.Nearest.{div-same}
 use Rattle.numbers.specs.Root.{rootIn, isqrt, closestRoot, roundRoot}
 use Rattle.numbers.specs.Shift.{near-lt, near-eq, near-gt, Cmp, cmp}
 use Rattle.laws.specs.FloatPack.{packed}
-use lib.Ieee.{hid, ones, top, ofBits}
+use lib.Ieee.{hid, ones, ofBits}
 
 -- ---- r is the whole part of √n
 pub record Root (r n : ℕ) : Type 0 where

@@ -1,9 +1,12 @@
 // Narrowing, right to the last bit and rounded once, and widening.
 ghost use mathlib.Core.Path.{_≡_};
-ghost use mathlib.Core.Bool.{cond};
-ghost use Prim.Native.Nat.{_+_, _*_, _^_, _<_, _≤_};
-ghost use lib.Ieee.{binary32, round};
+ghost use mathlib.Core.Bool.{cond, false};
+ghost use Prim.Native.Nat.{_*_, _%_, _^_, _<_, _≤_};
+ghost use lib.Dec.{leb};
+ghost use lib.Ieee.{binary32, binary64, round};
+ghost use Rattle.laws.specs.FloatParts.{digitsOf, powerOf};
 ghost use Rattle.numbers.specs.Numbers.{convert};
+ghost use Rattle.numbers.specs.Fractions.{rare};
 use super::parts::digits;
 use super::parts::least;
 use super::parts::less;
@@ -41,6 +44,26 @@ fn narrow_finite(s: bool, d: u64, e: u64) -> f32
     f32::from_bits(sign32(s) + (p as u32))
 }
 
+// Whether a magnitude, its bits given, is no normal f32 once rounded: below 2 ^ -126, or so large
+// that it becomes an infinity.
+fn is_rare(magnitude: u64) -> bool
+    ensures { λ r. ⌜ r ≡ rare magnitude ⌝ }
+{
+    (magnitude < 0x3810_0000_0000_0000) | (magnitude >= 0x47ef_ffff_f000_0000)
+}
+
+// The everyday case: the exponent's bias is exchanged, and the digits are rounded in place by adding
+// just under half of what the last digit kept is worth, or half where that digit is odd.
+fn narrow_everyday(b: u64) -> f32
+    requires { ⌜ rare (b % 2 ^ 63) ≡ false ⌝ }
+    ensures { λ r. ⌜ r ≡ round binary32 (leb (2 ^ 63) b) (digitsOf binary64 b * 2 ^ powerOf binary64 b) (2 ^ 1074) ⌝ }
+{
+    let t = b % 0x8000_0000_0000_0000 - 0x3800_0000_0000_0000;
+    let z = (t + 0xfff_ffff + t / 0x2000_0000 % 2) / 0x2000_0000;
+    f32::from_bits((b / 0x8000_0000_0000_0000 * 0x8000_0000 + z) as u32)
+}
+
+// NaN first, then the infinities, then what is rare, and the everyday case last.
 pub fn narrow(x: f64) -> f32
     ensures { λ r. ⌜ r ≡ convert binary32 x ⌝ }
 {
@@ -48,9 +71,12 @@ pub fn narrow(x: f64) -> f32
         return 0.0 / 0.0;
     }
     let b = f64::to_bits(x);
-    let s = b >= 0x8000_0000_0000_0000;
-    if b % 0x8000_0000_0000_0000 == 0x7ff0_0000_0000_0000 {
-        return f32::from_bits(sign32(s) + 0x7f80_0000);
+    let magnitude = b % 0x8000_0000_0000_0000;
+    if magnitude == 0x7ff0_0000_0000_0000 {
+        return f32::from_bits(sign32(b >= 0x8000_0000_0000_0000) + 0x7f80_0000);
     }
-    narrow_finite(s, digits(b), power(b))
+    if is_rare(magnitude) {
+        return narrow_finite(b >= 0x8000_0000_0000_0000, digits(b), power(b));
+    }
+    narrow_everyday(b)
 }

@@ -7,12 +7,21 @@ ghost use Prim.Native.Nat.{_+_, _*_, _^_, _<_, _≤_};
 ghost use lib.Dec.{leb};
 ghost use lib.Ieee.{binary32, binary64};
 ghost use Rattle.numbers.specs.Root.{roundRoot, sqrtOf};
+ghost use Rattle.numbers.specs.Fractions.{radicandOf};
 use super::parts::digits;
 use super::parts::digits32;
 use super::parts::pow2;
 use super::parts::power;
 use super::parts::power32;
 use super::parts::wide;
+
+// What a root is taken of. The number is its own root (a NaN, a zero, the infinity), it has none, or
+// it is digits * 2 ^ power of the format's smallest values, and above zero.
+pub enum Radicand {
+    Itself,
+    Negative,
+    Digits(u64, u64),
+}
 
 // 1 where c is at most a.
 fn digit(c: u64, a: u64) -> u64
@@ -55,23 +64,34 @@ fn sqrt_finite(d: u64, p: u64) -> f64
     f64::from_bits((p + 1032 - y) / 2 * 0x10_0000_0000_0000 + (w + 1) / 2)
 }
 
-pub fn sqrt(x: f64) -> f64
-    ensures { λ r. ⌜ r ≡ sqrtOf binary64 x ⌝ }
+fn prepared(x: f64) -> Radicand
+    ensures { λ r. ⌜ r ≡ radicandOf binary64 x ⌝ }
 {
     if x != x {
-        return x;
+        return Radicand::Itself;
     }
     if x == 0.0 {
-        return x;
+        return Radicand::Itself;
     }
     let b = f64::to_bits(x);
     if b >= 0x8000_0000_0000_0000 {
-        return 0.0 / 0.0;
+        return Radicand::Negative;
     }
     if b == 0x7ff0_0000_0000_0000 {
-        return x;
+        return Radicand::Itself;
     }
-    sqrt_finite(digits(b), power(b))
+    Radicand::Digits(digits(b), power(b))
+}
+
+pub fn sqrt(x: f64) -> f64
+    ensures { λ r. ⌜ r ≡ sqrtOf binary64 x ⌝ }
+{
+    let r = prepared(x);
+    match r {
+        Radicand::Itself => x,
+        Radicand::Negative => 0.0 / 0.0,
+        Radicand::Digits(d, p) => sqrt_finite(d, p),
+    }
 }
 
 // The root of d * 2 ^ p smallest values of an `f32`.
@@ -87,21 +107,32 @@ fn sqrt32_finite(d: u64, p: u64) -> f32
     f32::from_bits(((p + 165 - y) / 2 * 0x80_0000 + (w + 1) / 2) as u32)
 }
 
-pub fn sqrt32(x: f32) -> f32
-    ensures { λ r. ⌜ r ≡ sqrtOf binary32 x ⌝ }
+fn prepared32(x: f32) -> Radicand
+    ensures { λ r. ⌜ r ≡ radicandOf binary32 x ⌝ }
 {
     if x != x {
-        return x;
+        return Radicand::Itself;
     }
     if x == 0.0 {
-        return x;
+        return Radicand::Itself;
     }
     let b = f32::to_bits(x);
     if b >= 0x8000_0000 {
-        return 0.0 / 0.0;
+        return Radicand::Negative;
     }
     if b == 0x7f80_0000 {
-        return x;
+        return Radicand::Itself;
     }
-    sqrt32_finite(digits32(b), power32(b))
+    Radicand::Digits(digits32(b), power32(b))
+}
+
+pub fn sqrt32(x: f32) -> f32
+    ensures { λ r. ⌜ r ≡ sqrtOf binary32 x ⌝ }
+{
+    let r = prepared32(x);
+    match r {
+        Radicand::Itself => x,
+        Radicand::Negative => 0.0 / 0.0,
+        Radicand::Digits(d, p) => sqrt32_finite(d, p),
+    }
 }

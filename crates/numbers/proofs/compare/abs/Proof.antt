@@ -1,7 +1,7 @@
 -- `numbers::compare::abs` meets its contract. Assumes nothing.
 use mathlib.Core.Path.{sym, subst}
 use lib.Dec.{T}
-use lib.Ieee.{binary64, fits}
+use lib.Ieee.{binary64}
 use Rattle.numbers.specs.Laws.{abs-nan, abs-bits, abs-number, no-nan}
 use Rattle.numbers.proofs.compare.abs.Statement.{statement}
 use Rattle.numbers.proofs.compare.abs.Tie as tie

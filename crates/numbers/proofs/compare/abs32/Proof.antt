@@ -1,7 +1,7 @@
 -- `numbers::compare::abs32` meets its contract. Assumes nothing.
 use mathlib.Core.Path.{sym, subst}
 use lib.Dec.{T}
-use lib.Ieee.{binary32, fits}
+use lib.Ieee.{binary32}
 use Rattle.numbers.specs.Laws.{abs-nan, abs-bits, abs-number, no-nan}
 use Rattle.numbers.proofs.compare.abs32.Statement.{statement}
 use Rattle.numbers.proofs.compare.abs32.Tie as tie

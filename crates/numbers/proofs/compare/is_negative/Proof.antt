@@ -1,7 +1,7 @@
 -- `numbers::compare::is_negative` meets its contract. Assumes nothing.
 use mathlib.Core.Path.{sym, subst}
 use lib.Dec.{T}
-use lib.Ieee.{binary64, fits}
+use lib.Ieee.{binary64}
 use Rattle.numbers.specs.Laws.{no-nan, sign-is, sign-nan}
 use Rattle.numbers.proofs.compare.is_negative.Statement.{statement}
 use Rattle.numbers.proofs.compare.is_negative.Tie as tie

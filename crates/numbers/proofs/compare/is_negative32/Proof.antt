@@ -1,7 +1,7 @@
 -- `numbers::compare::is_negative32` meets its contract. Assumes nothing.
 use mathlib.Core.Path.{sym, subst}
 use lib.Dec.{T}
-use lib.Ieee.{binary32, fits}
+use lib.Ieee.{binary32}
 use Rattle.numbers.specs.Laws.{no-nan, sign-is, sign-nan}
 use Rattle.numbers.proofs.compare.is_negative32.Statement.{statement}
 use Rattle.numbers.proofs.compare.is_negative32.Tie as tie

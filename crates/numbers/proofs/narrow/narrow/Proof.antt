@@ -1,23 +1,18 @@
--- Assumes nothing.
-use mathlib.Core.Path.{_≡_, refl, sym, ap, _∙_, subst}
-use mathlib.Core.Bool.{Bool, true, false, cond}
-use lib.Dec.{T}
-use lib.Ieee.{Float, binary64, ofBits, fits, ne, isNan}
-use borrow.Author.Needs.{needs}
-use native.Mathlib.Omega.{arith}
-use mathlib.Core.Bool.{not}
+-- `numbers::narrow::narrow` meets its contract. Assumes nothing.
+use mathlib.Core.Path.{_≡_, sym, ap, _∙_, subst}
+use mathlib.Core.Bool.{Bool, not}
 use Prim.Native.Nat.{ℕ, _+_, _-_, _*_, _^_, _<_, _≤_}
-use lib.Dec.{leb}
+use native.Mathlib.Omega.{arith}
+use lib.Dec.{T, leb}
 use lib.Pow.{pow-pos}
-use lib.Ieee.{nan, binary32, div, nanBits, toBits, round}
+use lib.Ieee.{binary32, binary64, div, fits, nanBits, ofBits, toBits, round}
 use mir.Facts.{fits-of-lt}
-use Rattle.numbers.specs.Numbers.{convert}
-use Rattle.laws.specs.FloatParts.{digitsOf, powerOf, field}
-use Rattle.numbers.specs.Laws.{no-nan}
 use Rattle.laws.specs.FloatPack.{no-nan-bits, inf-bits}
-use Rattle.laws.specs.FloatParts.{finite-field, float-value, digits-lt, digits-ge}
-use Rattle.numbers.specs.Laws.{convert-value, convert-nan, convert-inf}
+use Rattle.laws.specs.FloatParts.{digitsOf, powerOf, field, finite-field, float-value, digits-lt, digits-ge}
+use Rattle.numbers.specs.Numbers.{convert}
+use Rattle.numbers.specs.Laws.{no-nan, convert-value, convert-nan, convert-inf}
 use Rattle.numbers.proofs.Narrowing.{pattern-lt}
+use borrow.Author.Needs.{needs}
 use Rattle.numbers.proofs.narrow.narrow.Statement.{statement}
 use Rattle.numbers.proofs.narrow.narrow.Tie as tie
 
@@ -30,6 +25,18 @@ bits c = toBits binary64 (c .args .x)
 
 abbrev sgn : tie.Start → Bool
 sgn c = leb 9223372036854775808 (bits c)
+
+-- past the first two tests the exponent's field is below the infinity's, and the value is that of the bits
+finite : (c : tie.Else2) → field binary64 (bits (c .before .before)) < 2047
+finite c = finite-field binary64 (c .before .before .args .x) (held (c .before .before)) (no-nan (c .before .before .args .x) (c .before .if1 .left)) (c .if2 .left)
+
+value : (c : tie.Else2) → round binary32 (sgn (c .before .before)) (digitsOf binary64 (bits (c .before .before)) * 2 ^ powerOf binary64 (bits (c .before .before))) (2 ^ 1074) ≡ convert binary32 (c .before .before .args .x)
+value c =
+    let a = c .before .before in
+    sym (convert-value binary32 (a .args .x) (sgn a) (digitsOf binary64 (bits a) * 2 ^ powerOf binary64 (bits a)) (2 ^ 1074) (pow-pos 1074) (float-value binary64 (a .args .x) (held a) (finite c)))
+
+power-le : (x : ℕ) → x < 2047 → x - 1 ≤ 2045
+power-le x h = omega arith
 
 returns : tie.Need-returns
 unfolding ofBits div
@@ -52,39 +59,57 @@ returns-2 c =
     let a = c .before .before .before in
     ap (λ (x : ℕ). ofBits binary32 (x + 2139095040)) (c .sign32 .ensures) ∙ inf-bits binary32 (sgn a) ∙ convert-inf binary32 binary64 (a .args .x) (held a) (c .before .if2 .taken)
 
+is-rare-requires : tie.Need-is-rare-requires
+is-rare-requires c κs = search needs
+
 digits-requires : tie.Need-digits-requires
 digits-requires c κs = search needs
 
 power-requires : tie.Need-power-requires
 power-requires c κs = search needs
 
--- past the two tests the exponent's field is below the infinity's
-finite : (c : tie.Else2) → field binary64 (bits (c .before .before)) < 2047
-finite c = finite-field binary64 (c .before .before .args .x) (held (c .before .before)) (no-nan (c .before .before .args .x) (c .before .if1 .left)) (c .if2 .left)
-
-power-le : (x : ℕ) → x < 2047 → x - 1 ≤ 2045
-power-le x h = omega arith
-
 narrow-finite-requires : tie.Need-narrow-finite-requires
 narrow-finite-requires c κs =
-    let b = bits (c .before .before .before .before) in
+    let e = c .before .before .before .before in
+    let b = bits (e .before .before) in
     let D = c .before .digits .ensures in
     let P = c .power .ensures in (
       subst (λ (x : ℕ). x < 2 ^ 53) (sym D) (digits-lt binary64 b),
       (
         (λ h. subst (λ (x : ℕ). 2 ^ 52 ≤ x) (sym D) (digits-ge binary64 b (subst (λ (x : ℕ). 0 < x) P h))),
-        subst (λ (x : ℕ). x ≤ 2045) (sym P) (power-le (field binary64 b) (finite (c .before .before))),
+        subst (λ (x : ℕ). x ≤ 2045) (sym P) (power-le (field binary64 b) (finite e)),
       ),
     )
 
 returns-3 : tie.Need-returns-3
 returns-3 c =
-    let e = c .before .before .before in
+    let e = c .before .before .before .before .before in
     let a = e .before .before in
     c .narrow-finite .ensures
     ∙ ap (λ (d : ℕ). round binary32 (sgn a) (d * 2 ^ c .before .power .result) (2 ^ 1074)) (c .before .before .digits .ensures)
     ∙ ap (λ (p : ℕ). round binary32 (sgn a) (digitsOf binary64 (bits a) * 2 ^ p) (2 ^ 1074)) (c .before .power .ensures)
-    ∙ sym (convert-value binary32 (a .args .x) (sgn a) (digitsOf binary64 (bits a) * 2 ^ powerOf binary64 (bits a)) (2 ^ 1074) (pow-pos 1074) (float-value binary64 (a .args .x) (held a) (finite e)))
+    ∙ value e
+
+narrow-everyday-requires : tie.Need-narrow-everyday-requires
+narrow-everyday-requires c κs = sym (c .before .is-rare .ensures) ∙ c .if3 .left
+
+returns-4 : tie.Need-returns-4
+returns-4 c = c .narrow-everyday .ensures ∙ value (c .before .before .before)
 
 pub narrow-spec : {M : Type 1} → statement M
-narrow-spec = tie.close (tie.spec returns float-to-bits-b sign32-requires add-result float-from-bits-result returns-2 digits-requires power-requires narrow-finite-requires returns-3)
+narrow-spec =
+    tie.close
+    (tie.spec
+    returns
+    float-to-bits-b
+    sign32-requires
+    add-result
+    float-from-bits-result
+    returns-2
+    is-rare-requires
+    digits-requires
+    power-requires
+    narrow-finite-requires
+    returns-3
+    narrow-everyday-requires
+    returns-4)

@@ -1,8 +1,8 @@
 -- Assumes nothing.
-use mathlib.Core.Path.{_≡_, refl, sym, ap, _∙_, subst}
-use mathlib.Core.Bool.{Bool, true, false, cond}
+use mathlib.Core.Path.{refl, sym, ap, _∙_, subst}
+use mathlib.Core.Bool.{Bool, cond}
 use lib.Dec.{T}
-use lib.Ieee.{Float, binary64, ofBits, fits, ne, isNan}
+use lib.Ieee.{ofBits}
 use borrow.Author.Needs.{needs}
 use native.Mathlib.Omega.{arith}
 use Prim.Native.Nat.{ℕ, _+_, _-_, _*_, _^_, _<_, _≤_, min}
@@ -12,7 +12,7 @@ use lib.Ieee.{binary32}
 use lib.Ieee.Nearest.{closest}
 use mir.Facts.{fits-of-lt}
 use Rattle.laws.specs.FloatPack.{no-nan-bits}
-use Rattle.numbers.proofs.Narrowing.{Norm, norm, narrowed, kept-le, shift-ge, pattern-lt, min-le}
+use Rattle.numbers.proofs.Narrowing.{Norm, norm, narrowed, kept-le, pattern-lt, min-le}
 use Rattle.numbers.proofs.narrow.narrow_finite.Statement.{statement}
 use Rattle.numbers.proofs.narrow.narrow_finite.Tie as tie
 

@@ -1,8 +1,5 @@
 -- Assumes nothing.
-use mathlib.Core.Path.{_≡_, refl, sym, ap, _∙_, subst}
-use mathlib.Core.Bool.{Bool, true, false, cond}
-use lib.Dec.{T}
-use lib.Ieee.{Float, binary64, ofBits, fits, ne, isNan}
+use lib.Ieee.{binary64}
 use borrow.Author.Needs.{needs}
 use Rattle.laws.specs.FloatParts.{digits-none, digits-some}
 use Rattle.numbers.proofs.parts.digits.Statement.{statement}

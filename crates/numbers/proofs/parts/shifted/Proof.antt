@@ -1,10 +1,8 @@
 -- Assumes nothing.
-use mathlib.Core.Path.{_≡_, refl, sym, ap, _∙_, subst}
-use mathlib.Core.Bool.{Bool, true, false, cond}
-use lib.Dec.{T}
-use lib.Ieee.{Float, binary64, ofBits, fits, ne, isNan}
+use mathlib.Core.Path.{sym, subst}
+use lib.Ieee.{fits}
 use borrow.Author.Needs.{needs}
-use Prim.Native.Nat.{ℕ, _^_, _<_, _≤_}
+use Prim.Native.Nat.{ℕ, _<_, _≤_}
 use lib.Pow.{pow-pos, pow-mono}
 use native.Mathlib.Omega.{arith}
 use mir.Facts.{fits-of-lt}

@@ -1,8 +1,6 @@
 -- Assumes nothing.
-use mathlib.Core.Path.{_≡_, refl, sym, ap, _∙_, subst}
-use mathlib.Core.Bool.{Bool, true, false, cond}
-use lib.Dec.{T}
-use lib.Ieee.{Float, binary64, ofBits, fits, ne, isNan}
+use mathlib.Core.Path.{sym, ap}
+use mathlib.Core.Bool.{Bool, cond}
 use Prim.Native.Nat.{ℕ}
 use lib.Dec.{leb, le→leb}
 use lib.Arith.{lt→nleb}

@@ -1,8 +1,6 @@
 -- Assumes nothing.
-use mathlib.Core.Path.{_≡_, refl, sym, ap, _∙_, subst}
-use mathlib.Core.Bool.{Bool, true, false, cond}
-use lib.Dec.{T}
-use lib.Ieee.{Float, binary64, ofBits, fits, ne, isNan}
+use mathlib.Core.Path.{subst}
+use lib.Ieee.{fits}
 use native.Mathlib.Omega.{arith}
 use Prim.Native.Nat.{ℕ, _+_, _-_, _*_, _/_, _^_, _≤_, _<_}
 use native.Mathlib.Nat.{lt-of-lt-of-le, le-antisymm}

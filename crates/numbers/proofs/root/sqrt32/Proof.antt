@@ -1,110 +1,55 @@
--- Assumes nothing.
-use mathlib.Core.Path.{_≡_, refl, sym, ap, _∙_, subst}
-use mathlib.Core.Bool.{Bool, true, false, cond}
+-- `numbers::root::sqrt32` meets its contract. Assumes nothing.
+use mathlib.Core.Path.{sym, _∙_, subst}
 use lib.Dec.{T}
-use lib.Ieee.{Float, binary32, ofBits, fits, ne, isNan}
+use lib.Ieee.{binary32, ofBits, div, fits}
+use Rattle.numbers.specs.declared.root.Radicand.the-variants.{Itself, Negative, Digits}
+use Rattle.numbers.proofs.Rooting.{root-made, root-bounded}
 use borrow.Author.Needs.{needs}
-use native.Mathlib.Omega.{arith}
-use mathlib.Core.Bool.{not}
-use Prim.Native.Nat.{ℕ, _+_, _-_, _*_, _^_, _%_, _<_, _≤_}
-use lib.IntN.{pos}
-use lib.Dec.{leb, le→leb}
-use lib.Arith.{lt→nleb}
-use lib.Pow.{pow-pos}
-use lib.Ieee.{nan, fin, div, eq, toBits}
-use lib.Ieee.Bits.{is-true, is-false}
-use lib.Ieee.Exact.{HasValue}
-use lib.Ieee.Positive.{first-pos}
-use Rattle.numbers.specs.Root.{roundRoot, sqrtOf}
-use Rattle.numbers.specs.Numbers.{signOf}
-use Rattle.laws.specs.FloatParts.{digitsOf, powerOf, field}
-use Rattle.numbers.specs.Laws.{no-nan, sign-is}
-use Rattle.laws.specs.FloatParts.{finite-field, float-value, digits-lt}
-use Rattle.numbers.proofs.Rooting.{sqrt-nan, sqrt-zero, sqrt-neg, sqrt-inf, sqrt-value, nonzero}
 use Rattle.numbers.proofs.root.sqrt32.Statement.{statement}
 use Rattle.numbers.proofs.root.sqrt32.Tie as tie
 
 held : (c : tie.Start) → T (fits binary32 (c .args .x))
 held c = subst T (sym (c .good .0 .1)) tt
 
-abbrev bits : tie.Start → ℕ
-bits c = toBits binary32 (c .args .x)
+prepared32-requires : tie.Need-prepared32-requires
+prepared32-requires c κs = search needs
 
-returns : tie.Need-returns
-returns c = sqrt-nan binary32 (c .before .args .x) (c .if1 .taken)
+enum-told : tie.Need-enum-told
+enum-told c = search needs
 
-returns-2 : tie.Need-returns-2
-unfolding ofBits
-returns-2 c = sqrt-zero binary32 (c .before .before .args .x) (c .if2 .taken)
+enum-told-2 : tie.Need-enum-told-2
+enum-told-2 c = search needs
 
--- past the first two tests
-module _ (c : tie.Else2) where
-  abbrev x : Float
-  x = c .before .before .args .x
-
-  proper : T (not (isNan x))
-  proper = no-nan x (c .before .if1 .left)
-
-  no-zero : eq x (fin false 0 (pos 0)) ≡ false
-  unfolding ofBits
-  no-zero = c .if2 .left
-
-float-to-bits-b : tie.Need-float-to-bits-b
-float-to-bits-b c = proper c
-
-returns-3 : tie.Need-returns-3
-unfolding ofBits div
-returns-3 c =
-    let a = c .before .before .before in
-    let b = bits a in
-    sqrt-neg binary32 (a .args .x) (sym (sign-is binary32 (a .args .x) (held a) (proper (c .before))) ∙ is-true (leb 2147483648 b) (le→leb 2147483648 b (c .if3 .taken))) (no-zero (c .before))
-
-returns-4 : tie.Need-returns-4
-returns-4 c = let a = c .before .before .before .before in sqrt-inf binary32 binary32 (a .args .x) (held a) (c .if4 .taken)
-
-digits32-requires : tie.Need-digits32-requires
-digits32-requires c κs = search needs
-
-power32-requires : tie.Need-power32-requires
-power32-requires c κs = search needs
-
--- past all four
-module _ (c : tie.Else4) where
-  abbrev s : tie.Start
-  s = c .before .before .before .before
-
-  not-top : (b : ℕ) → b < 2 ^ 31 → (b ≡ 2139095040 → ⊥) → b % 2147483648 ≡ 2139095040 → ⊥
-  not-top b l n e = omega arith
-
-  finite : field binary32 (bits s) < 255
-  finite = finite-field binary32 (s .args .x) (held s) (proper (c .before .before)) (not-top (bits s) (c .before .if3 .left) (c .if4 .left))
-
-  value : HasValue (s .args .x) false (digitsOf binary32 (bits s) * 2 ^ powerOf binary32 (bits s)) (2 ^ 149)
-  value = subst (λ (b : Bool). HasValue (s .args .x) b (digitsOf binary32 (bits s) * 2 ^ powerOf binary32 (bits s)) (2 ^ 149)) (is-false (leb 2147483648 (bits s)) (lt→nleb 2147483648 (bits s) (c .before .if3 .left))) (float-value binary32 (s .args .x) (held s) finite)
-
-  above : 0 < digitsOf binary32 (bits s) * 2 ^ powerOf binary32 (bits s)
-  above = nonzero (s .args .x) false (digitsOf binary32 (bits s) * 2 ^ powerOf binary32 (bits s)) (2 ^ 149) (no-zero (c .before .before)) (pow-pos 149) value
-
-power-le : (x : ℕ) → x < 255 → x - 1 ≤ 253
-power-le x h = omega arith
+enum-known-r : tie.Need-enum-known-r
+enum-known-r c = search needs
 
 sqrt32-finite-requires : tie.Need-sqrt32-finite-requires
 sqrt32-finite-requires c κs =
-    let f = c .before .before in
-    let b = bits (s f) in
-    let D = c .before .digits32 .ensures in (
-      subst (λ (n : ℕ). 0 < n) (sym D) (first-pos (digitsOf binary32 b) (2 ^ powerOf binary32 b) (above f)),
-      (subst (λ (n : ℕ). n < 2 ^ 24) (sym D) (digits-lt binary32 b), subst (λ (n : ℕ). n ≤ 253) (sym (c .power32 .ensures)) (power-le (field binary32 b) (finite f))),
-    )
+    let a = c .before .before .before .before in
+    root-bounded binary32 (a .args .x) (held a) (Digits (c .before .r .given .0 .0) (c .before .r .given .0 .1 .0)) (sym (c .before .before .before .prepared32 .ensures) ∙ c .before .r .given .1)
 
-returns-5 : tie.Need-returns-5
-returns-5 c =
-    let f = c .before .before .before in
-    let b = bits (s f) in
+returns : tie.Need-returns
+returns c = let a = c .before .before .before in root-made binary32 (a .args .x) (held a) Itself (sym (c .before .before .prepared32 .ensures) ∙ c .enum-told .given .1)
+
+returns-2 : tie.Need-returns-2
+unfolding ofBits div
+returns-2 c = let a = c .before .before .before in root-made binary32 (a .args .x) (held a) Negative (sym (c .before .before .prepared32 .ensures) ∙ c .enum-told2 .given .1)
+
+returns-3 : tie.Need-returns-3
+returns-3 c =
+    let a = c .before .before .before .before .before in
     c .sqrt32-finite .ensures
-    ∙ ap (λ (n : ℕ). roundRoot binary32 (n * 2 ^ c .before .power32 .result) (2 ^ 149)) (c .before .before .digits32 .ensures)
-    ∙ ap (λ (n : ℕ). roundRoot binary32 (digitsOf binary32 b * 2 ^ n) (2 ^ 149)) (c .before .power32 .ensures)
-    ∙ sym (sqrt-value binary32 (s f .args .x) (digitsOf binary32 b * 2 ^ powerOf binary32 b) (2 ^ 149) (above f) (pow-pos 149) (value f))
+    ∙ root-made binary32 (a .args .x) (held a) (Digits (c .before .before .r .given .0 .0) (c .before .before .r .given .0 .1 .0)) (sym (c .before .before .before .before .prepared32 .ensures) ∙ c .before .before .r .given .1)
 
 pub sqrt32-spec : {M : Type 1} → statement M
-sqrt32-spec = tie.close (tie.spec returns returns-2 float-to-bits-b returns-3 returns-4 digits32-requires power32-requires sqrt32-finite-requires returns-5)
+sqrt32-spec =
+    tie.close
+    (tie.spec
+    prepared32-requires
+    enum-told
+    enum-told-2
+    enum-known-r
+    sqrt32-finite-requires
+    returns
+    returns-2
+    returns-3)

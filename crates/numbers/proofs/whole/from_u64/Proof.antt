@@ -1,17 +1,17 @@
 -- Assumes nothing.
-use mathlib.Core.Path.{_≡_, refl, sym, ap, _∙_, subst}
-use mathlib.Core.Bool.{Bool, true, false, cond}
+use mathlib.Core.Path.{_≡_, sym, ap, _∙_, subst}
+use mathlib.Core.Bool.{false}
 use lib.Dec.{T}
-use lib.Ieee.{Float, binary64, ofBits, fits, ne, isNan}
+use lib.Ieee.{binary64, ofBits, fits}
 use borrow.Author.Needs.{needs}
 use native.Mathlib.Omega.{arith}
 use mathlib.Core.Bool.{not}
-use Prim.Native.Nat.{ℕ, _+_, _-_, _*_, _^_, _<_, _≤_}
+use Prim.Native.Nat.{ℕ, _+_, _-_, _*_, _^_, _<_}
 use native.Mathlib.Nat.{zero-add, le-of-lt}
 use lib.Ieee.{nanBits}
 use lib.Ieee.Nearest.{closest}
 use Rattle.laws.specs.FloatPack.{no-nan-bits}
-use Rattle.numbers.proofs.Integers.{High, high, kept-le, pattern-lt, is-float, zero-float}
+use Rattle.numbers.proofs.Integers.{High, high, pattern-lt, is-float, zero-float}
 use Rattle.numbers.proofs.whole.from_u64.Statement.{statement}
 use Rattle.numbers.proofs.whole.from_u64.Tie as tie
 

@@ -1,12 +1,10 @@
 -- Assumes nothing.
 use mathlib.Core.Path.{_≡_, refl, sym, ap, _∙_, subst}
-use mathlib.Core.Bool.{Bool, true, false, cond}
-use lib.Dec.{T}
-use lib.Ieee.{Float, binary64, ofBits, fits, ne, isNan}
+use mathlib.Core.Bool.{true, false}
 use borrow.Author.Needs.{needs}
 use native.Mathlib.Omega.{arith}
 use native.Mathlib.Nat.{div-le-self}
-use Prim.Native.Nat.{ℕ, _^_, _<_, _≤_, _+_, _/_, _%_, min}
+use Prim.Native.Nat.{ℕ, _^_, _<_, _+_, _/_}
 use mathlib.Core.Bool.{true≢false, false≢true}
 use lib.Pow.{pow-pos}
 use Rattle.numbers.proofs.ToWhole.{down-far, down-near, down-near-2}

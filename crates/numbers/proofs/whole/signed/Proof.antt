@@ -1,12 +1,10 @@
--- Assumes nothing.
-use mathlib.Core.Path.{_≡_, refl, sym, ap, _∙_, subst}
-use mathlib.Core.Bool.{Bool, true, false, cond}
-use lib.Dec.{T}
-use lib.Ieee.{Float, binary64, ofBits, fits, ne, isNan}
+-- `numbers::whole::signed` meets its contract. Assumes nothing.
+use mathlib.Core.Path.{sym, ap, _∙_}
+use mathlib.Core.Bool.{Bool, false}
+use lib.Ieee.{binary64}
 use lib.Dec.{le→leb}
-use lib.IntN.{pos}
 use Prim.Native.Nat.{_^_}
-use lib.Ieee.{round, inFloat, ofInt, neg}
+use lib.Ieee.{round, inFloat, ofInt}
 use Rattle.numbers.proofs.ToWhole.{neg-round}
 use Rattle.numbers.proofs.whole.signed.Statement.{statement}
 use Rattle.numbers.proofs.whole.signed.Tie as tie

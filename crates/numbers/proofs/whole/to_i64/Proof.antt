@@ -1,8 +1,7 @@
--- Assumes nothing.
-use mathlib.Core.Path.{_≡_, refl, sym, ap, _∙_, subst}
-use mathlib.Core.Bool.{Bool, true, false, cond}
+-- `numbers::whole::to_i64` meets its contract. Assumes nothing.
+use mathlib.Core.Path.{sym, subst}
 use lib.Dec.{T}
-use lib.Ieee.{Float, binary64, ofBits, fits, ne, isNan}
+use lib.Ieee.{ofBits}
 use borrow.Author.Needs.{needs}
 use lib.Ieee.{neg}
 use Rattle.numbers.proofs.Integers.{above-top, below-low, nan-int}
@@ -18,14 +17,14 @@ returns c = search needs
 
 returns-2 : tie.Need-returns-2
 unfolding ofBits neg
-returns-2 c = above-top (c .before .before .args .x) (c .before .if1 .taken) (c .if2 .left)
+returns-2 c = above-top 63 (c .before .before .args .x) (c .before .if1 .taken) (c .if2 .left)
 
 returns-3 : tie.Need-returns-3
-returns-3 c = nan-int (c .before .before .args .x) (c .if3 .taken)
+returns-3 c = nan-int 63 (c .before .before .args .x) (c .if3 .taken)
 
 returns-4 : tie.Need-returns-4
 unfolding ofBits neg
-returns-4 c = below-low (c .before .before .args .x) (c .before .if1 .left) (c .if3 .left)
+returns-4 c = below-low 63 (c .before .before .args .x) (c .before .if1 .left) (c .if3 .left)
 
 pub to-i64-spec : {M : Type 1} → statement M
 to-i64-spec = tie.close (tie.spec truncating-f64-to-i64-requires returns returns-2 returns-3 returns-4)

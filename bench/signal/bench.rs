@@ -1,0 +1,107 @@
+//! What bench.rattle does, with the upstream's view and equalizer. `UPSTREAM` is the folder that has
+//! signal.rs and equalizer.rs; bench/signal.sh puts copies of both beside this file.
+
+mod dsp {
+    #[derive(Clone, Copy, Default)]
+    pub struct Complex32 {
+        pub real: f32,
+        pub imaginary: f32,
+    }
+}
+mod equalizer;
+mod signal;
+
+use dsp::Complex32;
+use equalizer::Equalizer;
+use signal::SignalView;
+
+fn mixed(h: u64, x: u64) -> u64 {
+    let mut h = h ^ x;
+    h = h.wrapping_add(h << 21);
+    h ^= h >> 24;
+    h = h.wrapping_add(h << 3);
+    h = h.wrapping_add(h << 8);
+    h ^ (h >> 14)
+}
+
+fn mixed32(h: u64, x: f32) -> u64 {
+    mixed(h, if x.is_nan() { 0x7fc0_0000 } else { x.to_bits() as u64 })
+}
+
+/// Numbers in -1..1 from a seed.
+fn numbers_from(seed: u64) -> [f32; 1024] {
+    let mut s = seed;
+    std::array::from_fn(|_| {
+        s ^= s << 13;
+        s ^= s >> 7;
+        s ^= s << 17;
+        (s >> 40) as f32 / 8388608.0 - 1.0
+    })
+}
+
+fn symbols() -> [Complex32; 1024] {
+    let (xs, ys) = (numbers_from(1), numbers_from(2));
+    std::array::from_fn(|i| Complex32 {
+        real: xs[i],
+        imaginary: ys[i],
+    })
+}
+
+fn pushes(rounds: u64) -> u64 {
+    let mut view = SignalView::default();
+    let symbols = symbols();
+    for _ in 0..rounds {
+        for symbol in &symbols[..1000] {
+            view.push(Some(*symbol));
+        }
+    }
+    let (_, error) = view.read(&mut [Complex32::default(); 1024]);
+    mixed(0, error.to_bits())
+}
+
+fn reads(rounds: u64) -> u64 {
+    let mut view = SignalView::default();
+    let symbols = symbols();
+    let mut output = [Complex32::default(); 1024];
+    let mut h = 0;
+    for round in 0..rounds {
+        let i = (round % 1024) as usize;
+        view.push(Some(symbols[i]));
+        let (_, error) = view.read(&mut output);
+        let point = output[i / 2];
+        let part = if i % 2 == 0 { point.real } else { point.imaginary };
+        h = mixed32(mixed(h, error.to_bits()), part);
+    }
+    h
+}
+
+fn steps(rounds: u64) -> u64 {
+    let xs = numbers_from(1);
+    let mut equalizer = Equalizer::default();
+    let row = |from: usize| {
+        std::array::from_fn(|i| Complex32 {
+            real: xs[4 * i + from],
+            imaginary: xs[4 * i + from + 1],
+        })
+    };
+    let (mut input, derivatives) = (row(0), row(2));
+    let mut h = 0;
+    for _ in 0..rounds {
+        let (_, timing) = equalizer.process(&input, &derivatives, true);
+        input[3].real = timing;
+        h = mixed32(h, timing);
+    }
+    h
+}
+
+fn main() {
+    let mut which = [0];
+    let _ = std::io::Read::read(&mut std::io::stdin(), &mut which);
+    let h = match which[0] {
+        b'p' => pushes(40000),
+        b'r' => reads(40000),
+        b'e' => steps(4000000),
+        _ => mixed(0, 0),
+    };
+    println!("{h:016x}");
+}

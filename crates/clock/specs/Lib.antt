@@ -1,0 +1,7 @@
+pub mod Clock
+pub mod Ranges
+pub mod Floor
+pub mod Ranged
+pub mod Update
+pub mod Laws
+pub mod AdmittedLaws

@@ -1,0 +1,119 @@
+-- From floats to floats: the outputs are the answers to the quantised samples, scaled; d = 1 passes the samples through; and a step keeps d, and the counter below it. Assumes nothing.
+use Prim.Native.Nat.{ℕ, zero, suc, _+_, _-_, _*_, _≤_, _<_}
+use native.Mathlib.Omega.{arith}
+use mathlib.Core.Path.{_≡_, refl, sym, ap, ap₂, _∙_, subst}
+use mathlib.Core.Bool.{Bool, cond}
+use mathlib.Core.Logic.{⊎-elim}
+use lib.ListN.{length, getD, length-map, List·getD-map}
+use mathlib.Core.List.{List, [], _∷_, map}
+use borrow.Author.Tests.{lt-ltb, le-ltb, le-leb, lt-leb}
+use Rattle.laws.specs.Ring.{lt-or-ge}
+use Rattle.complex.specs.declared.Complex32.{Complex32}
+use Rattle.decimator.specs.declared.Counts.{Counts}
+use Rattle.decimator.specs.declared.Decimator.{Decimator}
+use Rattle.decimator.specs.declared.Answer.the-variants.{Silent}
+use Rattle.decimator.specs.declared.Output.{Output}
+use Rattle.decimator.specs.declared.Output.the-variants.{Nothing, Value}
+use Rattle.decimator.specs.declared.Step.{Step}
+use Rattle.decimator.specs.Decimator.{countsOf, freshOf, absorbedOf, silentOf, soundedOf, advancedOf, answersOf, outputOf, steppedOf, outputsOf}
+use Rattle.decimator.specs.Demand.{noCounts, ago}
+use Rattle.decimator.specs.Theorem.{forgets-at}
+
+-- ---- what a step keeps
+pub record Ready (d : ℕ) (s : Decimator) : Type 0 where
+  pub by : s .decimation ≡ d
+  pub early : s .counter < d
+
+pub fresh-ready : (d : ℕ) → 0 < d → Ready d (freshOf d)
+unfolding freshOf
+fresh-ready d D = record { by = refl; early = D }
+
+pub advance-ready : (d : ℕ) (s : Decimator) (n : Counts) → Ready d s → Ready d (advancedOf s n .decimator)
+unfolding advancedOf
+advance-ready d s n k =
+    let i = absorbedOf (s .integrators) n in
+    let D = k .early in
+    ⊎-elim
+    (λ l. subst (λ (t : Bool). Ready d (cond t (silentOf s i) (soundedOf s i) .decimator)) (sym (lt-ltb (s .counter + 1) (s .decimation) l)) (record { by = k .by; early = let e = k .by in omega arith }))
+    (λ l. subst (λ (t : Bool). Ready d (cond t (silentOf s i) (soundedOf s i) .decimator)) (sym (le-ltb (s .counter + 1) (s .decimation) l)) (record { by = k .by; early = omega arith }))
+    (lt-or-ge (s .counter + 1) (s .decimation))
+
+-- ---- a step at d above 1, and at d = 1
+module _ (s : Decimator) (z : Complex32) where
+  pub step-above : 1 < s .decimation
+      → _≡_ {A = Step} (steppedOf s z) (record { decimator = advancedOf s (countsOf z) .decimator; output = outputOf (s .decimation) (advancedOf s (countsOf z) .answer) })
+  unfolding steppedOf
+  step-above l = rw (lt-ltb 1 (s .decimation) l)
+
+  pub step-through : s .decimation ≤ 1 → _≡_ {A = Step} (steppedOf s z) (record { decimator = s; output = Value z })
+  unfolding steppedOf
+  step-through l = rw (le-ltb 1 (s .decimation) l)
+
+pub step-ready : (d : ℕ) (s : Decimator) (z : Complex32) → Ready d s → Ready d (steppedOf s z .decimator)
+step-ready d s z k =
+    ⊎-elim
+    (λ l. subst (λ (t : Step). Ready d (t .decimator)) (sym (step-above s z l)) (advance-ready d s (countsOf z) k))
+    (λ l. subst (λ (t : Step). Ready d (t .decimator)) (sym (step-through s z l)) k)
+    (lt-or-ge 1 (s .decimation))
+
+pub stepped-ready : (s : Decimator) (z : Complex32) (r : Step) → s .counter < s .decimation → r ≡ steppedOf s z → Ready (s .decimation) (r .decimator)
+stepped-ready s z r l e = subst (λ (t : Step). Ready (s .decimation) (t .decimator)) (sym e) (step-ready (s .decimation) s z (record { by = refl; early = l }))
+
+-- ---- rows
+pub outputs-above : (d : ℕ) → 1 < d → (s : Decimator) → Ready d s → (zs : List Complex32) → outputsOf s zs ≡ map (outputOf d) (answersOf s (map countsOf zs))
+unfolding outputsOf answersOf
+outputs-above d D s k [] = refl
+outputs-above d D s k (z ∷ zs) =
+    let e = step-above s z (let b = k .by in omega arith) in
+    ap₂ {C = List Output} _∷_
+    (ap (λ (t : Step). t .output) e ∙ ap (λ (n : ℕ). outputOf n (advancedOf s (countsOf z) .answer)) (k .by))
+    (ap (λ (t : Step). outputsOf (t .decimator) zs) e ∙ outputs-above d D (advancedOf s (countsOf z) .decimator) (advance-ready d s (countsOf z) k) zs)
+
+pub outputs-through : (s : Decimator) → s .decimation ≤ 1 → (zs : List Complex32) → outputsOf s zs ≡ map Value zs
+unfolding outputsOf
+outputs-through s l [] = refl
+outputs-through s l (z ∷ zs) =
+    let e = step-through s z l in
+    ap₂ {C = List Output} _∷_ (ap (λ (t : Step). t .output) e) (ap (λ (t : Step). outputsOf (t .decimator) zs) e ∙ outputs-through s l zs)
+
+-- ---- forgetting: rows that agree on the latest 3d - 2 samples have the same output there
+map-at : {A B : Type 0} (f : A → B) (l : List A) (i : ℕ) (a : A) (b : B) → i < length l → getD (map f l) i b ≡ f (getD l i a)
+map-at f [] i a b h = absurd (omega arith)
+map-at f (x ∷ xs) zero a b h = refl
+map-at f (x ∷ xs) (suc i) a b h = map-at f xs i a b (omega arith)
+
+module _ (d : ℕ) (D : 0 < d) (none : Complex32) (xs ys : List Complex32) (n : ℕ) (l : n < length xs) (m : n < length ys)
+    (same : (i : ℕ) → i ≤ n → n < i + (3 * d - 2) → getD xs i none ≡ getD ys i none) where
+  through : d ≤ 1 → getD (outputsOf (freshOf d) xs) n Nothing ≡ getD (outputsOf (freshOf d) ys) n Nothing
+  unfolding freshOf
+  through h =
+      ap (λ (os : List Output). getD os n Nothing) (outputs-through (freshOf d) h xs)
+      ∙ map-at Value xs n none Nothing l
+      ∙ ap Value (same n (omega arith) (omega arith))
+      ∙ sym (map-at Value ys n none Nothing m)
+      ∙ ap (λ (os : List Output). getD os n Nothing) (sym (outputs-through (freshOf d) h ys))
+
+  counts-same : (a : ℕ) → a < 3 * d - 2 → ago (map countsOf xs) n a ≡ ago (map countsOf ys) n a
+  counts-same a h =
+      ⊎-elim
+      (λ k. ap (λ (b : Bool). cond b (getD (map countsOf xs) (n - a) noCounts) noCounts) (lt-leb a n k) ∙ sym (ap (λ (b : Bool). cond b (getD (map countsOf ys) (n - a) noCounts) noCounts) (lt-leb a n k)))
+      (λ k.
+      ap (λ (b : Bool). cond b (getD (map countsOf xs) (n - a) noCounts) noCounts) (le-leb a n k)
+      ∙ map-at countsOf xs (n - a) none noCounts (omega arith)
+      ∙ ap countsOf (same (n - a) (omega arith) (omega arith))
+      ∙ sym (map-at countsOf ys (n - a) none noCounts (omega arith))
+      ∙ sym (ap (λ (b : Bool). cond b (getD (map countsOf ys) (n - a) noCounts) noCounts) (le-leb a n k)))
+      (lt-or-ge n a)
+
+  by-answer : 1 < d → (zs : List Complex32) → getD (outputsOf (freshOf d) zs) n Nothing ≡ outputOf d (getD (answersOf (freshOf d) (map countsOf zs)) n Silent)
+  unfolding outputOf
+  by-answer h zs = ap (λ (os : List Output). getD os n Nothing) (outputs-above d h (freshOf d) (fresh-ready d D) zs) ∙ List·getD-map (outputOf d) (answersOf (freshOf d) (map countsOf zs)) n Silent
+
+  above : 1 < d → getD (outputsOf (freshOf d) xs) n Nothing ≡ getD (outputsOf (freshOf d) ys) n Nothing
+  above h =
+      by-answer h xs
+      ∙ ap (outputOf d) (forgets-at d D (map countsOf xs) (map countsOf ys) n (rw (length-map xs countsOf) l) (rw (length-map ys countsOf) m) counts-same)
+      ∙ sym (by-answer h ys)
+
+  pub outputs-forget : getD (outputsOf (freshOf d) xs) n Nothing ≡ getD (outputsOf (freshOf d) ys) n Nothing
+  outputs-forget = ⊎-elim (λ h. above h) (λ h. through h) (lt-or-ge 1 d)

@@ -1,0 +1,269 @@
+// The decimator: three integrators at the input's rate and three combs at the d-th part of it, all
+// modulo 2^64, for both parts of a sample with one counter. A sum that leaves the 64 bits on the way
+// comes back into them: specs/Theorem.antt.
+ghost use mathlib.Core.Path.{_≡_};
+ghost use Prim.Native.Nat.{_<_};
+ghost use lib.Ieee.{binary64, ofInt};
+ghost use Rattle.decimator.specs.Decimator.{freshOf, countsOf, integratedOf, combedOf, absorbedOf, soundedOf, advancedOf, scaleOf, scaledOf, outputOf, steppedOf};
+ghost use Rattle.decimator.specs.Values.{Ready};
+use complex::Complex32;
+use numbers::bits::signed;
+use numbers::bits::unsigned;
+use numbers::narrow::narrow;
+use numbers::whole::from_i64;
+use quantiser::quantised;
+use std::num::wrapping_add_u64;
+use std::num::wrapping_sub_u64;
+
+mod quantiser;
+
+// The integrators of one part.
+pub struct Sums {
+    pub first: u64,
+    pub second: u64,
+    pub third: u64,
+}
+
+// What the combs of one part met at the last output.
+pub struct Delays {
+    pub first: u64,
+    pub second: u64,
+    pub third: u64,
+}
+
+pub struct Integrators {
+    pub real: Sums,
+    pub imaginary: Sums,
+}
+
+pub struct Combs {
+    pub real: Delays,
+    pub imaginary: Delays,
+}
+
+// Both parts of a sample or of a sum, as whole numbers.
+pub struct Counts {
+    pub real: i64,
+    pub imaginary: i64,
+}
+
+// `counter` samples have come since the last output.
+pub struct Decimator {
+    pub decimation: usize,
+    pub counter: usize,
+    pub integrators: Integrators,
+    pub combs: Combs,
+}
+
+// What three combs make of a sum, and their delays after it.
+pub struct Difference {
+    pub delays: Delays,
+    pub value: i64,
+}
+
+// Both combs' sums at every d-th sample, and nothing between.
+pub enum Answer {
+    Silent,
+    Sum(Counts),
+}
+
+pub struct Advance {
+    pub decimator: Decimator,
+    pub answer: Answer,
+}
+
+// A decimated value, or none yet.
+pub enum Output {
+    Nothing,
+    Value(Complex32),
+}
+
+pub struct Step {
+    pub decimator: Decimator,
+    pub output: Output,
+}
+
+pub fn fresh(decimation: usize) -> Decimator
+    ensures { λ r. ⌜ r ≡ freshOf decimation ⌝ }
+{
+    let none = Sums {
+        first: 0,
+        second: 0,
+        third: 0,
+    };
+    let still = Delays {
+        first: 0,
+        second: 0,
+        third: 0,
+    };
+    Decimator {
+        decimation,
+        counter: 0,
+        integrators: Integrators {
+            real: none,
+            imaginary: none,
+        },
+        combs: Combs {
+            real: still,
+            imaginary: still,
+        },
+    }
+}
+
+fn integrated(s: Sums, n: i64) -> Sums
+    ensures { λ r. ⌜ r ≡ integratedOf s n ⌝ }
+{
+    let first = wrapping_add_u64(s.first, unsigned(n));
+    let second = wrapping_add_u64(s.second, first);
+    let third = wrapping_add_u64(s.third, second);
+    Sums {
+        first,
+        second,
+        third,
+    }
+}
+
+fn combed(y: Delays, sum: u64) -> Difference
+    ensures { λ r. ⌜ r ≡ combedOf y sum ⌝ }
+{
+    let second = wrapping_sub_u64(sum, y.first);
+    let third = wrapping_sub_u64(second, y.second);
+    let last = wrapping_sub_u64(third, y.third);
+    Difference {
+        delays: Delays {
+            first: sum,
+            second,
+            third,
+        },
+        value: signed(last),
+    }
+}
+
+fn counted(z: Complex32) -> Counts
+    ensures { λ r. ⌜ r ≡ countsOf z ⌝ }
+{
+    Counts {
+        real: quantised(z.real),
+        imaginary: quantised(z.imaginary),
+    }
+}
+
+fn absorbed(s: Integrators, n: Counts) -> Integrators
+    ensures { λ r. ⌜ r ≡ absorbedOf s n ⌝ }
+{
+    let a = s.real;
+    let b = s.imaginary;
+    let real = integrated(a, n.real);
+    let imaginary = integrated(b, n.imaginary);
+    Integrators { real, imaginary }
+}
+
+// The d-th sample's answer, its sums taken.
+fn sounded(d: Decimator, s: Integrators) -> Advance
+    ensures { λ r. ⌜ r ≡ soundedOf d s ⌝ }
+{
+    let combs = d.combs;
+    let a = combs.real;
+    let b = combs.imaginary;
+    let x = s.real;
+    let y = s.imaginary;
+    let u = combed(a, x.third);
+    let v = combed(b, y.third);
+    let p = u.delays;
+    let q = v.delays;
+    Advance {
+        decimator: Decimator {
+            decimation: d.decimation,
+            counter: 0,
+            integrators: s,
+            combs: Combs {
+                real: p,
+                imaginary: q,
+            },
+        },
+        answer: Answer::Sum(Counts {
+            real: u.value,
+            imaginary: v.value,
+        }),
+    }
+}
+
+// One sample in whole numbers.
+fn advanced(d: Decimator, n: Counts) -> Advance
+    requires { ⌜ d .counter < d .decimation ⌝ }
+    ensures { λ r. ⌜ r ≡ advancedOf d n ⌝ }
+{
+    let i = d.integrators;
+    let s = absorbed(i, n);
+    if d.counter + 1 < d.decimation {
+        let combs = d.combs;
+        Advance {
+            decimator: Decimator {
+                decimation: d.decimation,
+                counter: d.counter + 1,
+                integrators: s,
+                combs,
+            },
+            answer: Answer::Silent,
+        }
+    } else {
+        sounded(d, s)
+    }
+}
+
+// n as a float: up to 2^53 in size every whole number is one.
+fn float(n: i64) -> f64
+    ensures { λ r. ⌜ r ≡ ofInt binary64 n ⌝ }
+{
+    if n > -9007199254740992 && n < 9007199254740992 {
+        n as f64
+    } else {
+        from_i64(n)
+    }
+}
+
+fn scale(decimation: usize) -> f64
+    ensures { λ r. ⌜ r ≡ scaleOf decimation ⌝ }
+{
+    let d = std::num::nearest_u64_to_f64(decimation as u64);
+    1.0 / (32768.0 * d * d * d)
+}
+
+fn scaled(decimation: usize, n: Counts) -> Complex32
+    ensures { λ r. ⌜ r ≡ scaledOf decimation n ⌝ }
+{
+    let k = scale(decimation);
+    Complex32 {
+        real: narrow(float(n.real) * k),
+        imaginary: narrow(float(n.imaginary) * k),
+    }
+}
+
+fn delivered(decimation: usize, a: Answer) -> Output
+    ensures { λ r. ⌜ r ≡ outputOf decimation a ⌝ }
+{
+    match a {
+        Answer::Silent => Output::Nothing,
+        Answer::Sum(n) => Output::Value(scaled(decimation, n)),
+    }
+}
+
+// One sample. d = 1 passes it through.
+pub fn stepped(d: Decimator, z: Complex32) -> Step
+    requires { ⌜ d .counter < d .decimation ⌝ }
+    ensures same { λ r. ⌜ r ≡ steppedOf d z ⌝ }
+    ensures ready { λ r. ⌜ Ready (d .decimation) (r .decimator) ⌝ }
+{
+    if d.decimation > 1 {
+        let a = advanced(d, counted(z));
+        let decimator = a.decimator;
+        let answer = a.answer;
+        let output = delivered(d.decimation, answer);
+        Step { decimator, output }
+    } else {
+        Step {
+            decimator: d,
+            output: Output::Value(z),
+        }
+    }
+}

@@ -1,0 +1,80 @@
+-- The equalizer's step put together from what its parts answer, and what an unreliable one does. Assumes nothing.
+use mathlib.Core.Path.{_≡_, refl}
+use mathlib.Core.Bool.{Bool, true, false, cond}
+use lib.Ieee.{Float, binary32, ofBits, div, neg, lt}
+use Rattle.laws.specs.Branches.{cond-then, cond-no}
+use Rattle.numbers.specs.Numbers.{clampOf}
+use Rattle.numbers.specs.Root.{sqrtOf}
+use Rattle.complex.specs.Complex.{powerOf}
+use Rattle.equalizer.specs.declared.Sums.{Sums}
+use Rattle.equalizer.specs.Equalizer.{Row, Step, zero32, one32, sumsOf, stepOf, adaptedOf, normOf, scaledBy, limitedOf, learnsFrom, updatedOf, slopeOf, timingOf, equalizedOf}
+
+-- ---- the norm's two ways
+module _ (w : Row) (size : Float) (is-norm : size ≡ normOf w) where
+  pub limited-found : (root : Float) (after : Row) → lt (ofBits binary32 1098907648) size ≡ true → root ≡ sqrtOf binary32 size
+      → after ≡ scaledBy (div binary32 (ofBits binary32 1082130432) root) w → after ≡ limitedOf w
+  unfolding limitedOf
+  limited-found root after above is-root e = rw (← is-norm) (cond-then _ _ _ _ above (rw (← is-root) e))
+
+  pub limited-kept : lt (ofBits binary32 1098907648) size ≡ false → w ≡ limitedOf w
+  unfolding limitedOf
+  limited-kept under = rw (← is-norm) (cond-no _ _ _ _ under refl)
+
+-- ---- the update's two ways
+module _ (s : Sums) (reliable : Bool) (x w : Row) (power : Float) (learning : Bool)
+    (is-power : power ≡ powerOf (s .value)) (is-learning : learning ≡ learnsFrom reliable (s .energy) power) where
+  pub updated-found : (step : Float) (moved after : Row) → learning ≡ true → step ≡ stepOf power (s .energy)
+      → moved ≡ adaptedOf (s .value) step x w → after ≡ limitedOf moved → after ≡ updatedOf s reliable x w
+  unfolding updatedOf
+  updated-found step moved after taken is-step is-moved is-after =
+      rw (← is-power, ← is-learning) (cond-then _ _ _ _ taken (rw (← is-step, ← is-moved) is-after))
+
+  pub updated-kept : learning ≡ false → w ≡ updatedOf s reliable x w
+  unfolding updatedOf
+  updated-kept left = rw (← is-power, ← is-learning) (cond-no _ _ _ _ left refl)
+
+-- ---- the whole step
+pub step-made : (w x dx : Row) (reliable : Bool) (s : Sums) (after : Row) (timing : Float) → s ≡ sumsOf w x dx
+    → after ≡ updatedOf s reliable x w → timing ≡ timingOf s reliable
+    → _≡_ {A = Step} (record { equalized = record { value = s .value; timing = timing }; weights = after }) (equalizedOf w x dx reliable)
+unfolding equalizedOf
+step-made w x dx reliable s after timing is-sums is-after is-timing = rw (is-after, is-timing, is-sums)
+
+-- an unreliable symbol leaves the weights alone and tells the clock nothing
+pub unreliable-kept : (w x dx : Row) → equalizedOf w x dx false .weights ≡ w
+unfolding equalizedOf updatedOf
+unreliable-kept w x dx = refl
+
+pub unreliable-silent : (w x dx : Row) → equalizedOf w x dx false .equalized .timing ≡ zero32
+unfolding equalizedOf timingOf
+unreliable-silent w x dx = refl
+
+-- ---- the timing error is a NaN or lies in -1..1
+module _ (x lo hi : Float) (ordered : lt hi lo ≡ false) where
+  low-cases : (b c : Bool) → lt lo lo ≡ false → lt x lo ≡ b → lt (cond b lo (cond c hi x)) lo ≡ false
+  low-cases true c same h = same
+  low-cases false true same h = ordered
+  low-cases false false same h = h
+
+  high-cases : (b c : Bool) → lt hi hi ≡ false → lt hi x ≡ c → lt hi (cond b lo (cond c hi x)) ≡ false
+  high-cases true c same h = ordered
+  high-cases false true same h = same
+  high-cases false false same h = h
+
+  clamped-low : lt lo lo ≡ false → lt (clampOf x lo hi) lo ≡ false
+  unfolding clampOf
+  clamped-low same = low-cases (lt x lo) (lt hi x) same refl
+
+  clamped-high : lt hi hi ≡ false → lt hi (clampOf x lo hi) ≡ false
+  unfolding clampOf
+  clamped-high same = high-cases (lt x lo) (lt hi x) same refl
+
+pub timing-not-below : (s : Sums) (reliable : Bool) → lt (timingOf s reliable) (neg one32) ≡ false
+unfolding timingOf lt ofBits neg
+timing-not-below s true = clamped-low (slopeOf s) (neg one32) one32 refl refl
+timing-not-below s false = refl
+
+pub timing-not-above : (s : Sums) (reliable : Bool) → lt one32 (timingOf s reliable) ≡ false
+unfolding timingOf lt ofBits neg
+timing-not-above s true = clamped-high (slopeOf s) (neg one32) one32 refl refl
+timing-not-above s false = refl

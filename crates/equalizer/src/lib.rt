@@ -1,0 +1,215 @@
+// The equalizer: 21 taps half a symbol apart, centre 1, adaptation zero. Every row of 21 is lent as
+// two planes: wr and wi are the real and imaginary parts of the weights, xr and xi those of the
+// window, dr and di those of its derivatives.
+ghost use mathlib.Core.Path.{_≡_};
+ghost use Rattle.equalizer.specs.Equalizer.{Step, rowOf, freshReal, freshImaginary, tappedOf, sumsOf, adaptedOf, normOf, scaledBy, limitedOf, stepOf, learnsFrom, updatedOf, timingOf, equalizedOf};
+use complex::Complex32;
+use numbers::compare::clamp32;
+use numbers::compare::is_finite32;
+use numbers::root::sqrt32;
+
+// Zero: adapting to a constant modulus made fading channels worse, and the detector that follows
+// models the delayed paths.
+const ADAPTATION: f32 = 0.0;
+
+// What one pass over the taps adds up: the weighted window, the weighted derivatives, and the
+// window's power.
+pub struct Sums {
+    pub value: Complex32,
+    pub derivative: Complex32,
+    pub energy: f32,
+}
+
+// The equalized symbol, and how far its instant lies from the middle of the eye.
+pub struct Equalized {
+    pub value: Complex32,
+    pub timing: f32,
+}
+
+// The weights of a fresh equalizer.
+pub fn fresh_real() -> [f32; 21]
+    ensures { λ r. ⌜ r ≡ freshReal ⌝ }
+{
+    let mut weights = [0.0; 21];
+    weights[10] = 1.0;
+    weights
+}
+
+pub fn fresh_imaginary() -> [f32; 21]
+    ensures { λ r. ⌜ r ≡ freshImaginary ⌝ }
+{
+    [0.0; 21]
+}
+
+// One tap: its weight w, the window's value x there, and that value's derivative dx.
+fn tapped(s: Sums, w: Complex32, x: Complex32, dx: Complex32) -> Sums
+    ensures { λ r. ⌜ r ≡ tappedOf s w x dx ⌝ }
+{
+    let value = s.value;
+    let derivative = s.derivative;
+    Sums {
+        value: complex::added(value, complex::multiplied(w, x)),
+        derivative: complex::added(derivative, complex::multiplied(w, dx)),
+        energy: s.energy + complex::power(x),
+    }
+}
+
+fn tap_sums(
+    wr: &[f32; 21],
+    wi: &[f32; 21],
+    xr: &[f32; 21],
+    xi: &[f32; 21],
+    dr: &[f32; 21],
+    di: &[f32; 21],
+) -> Sums
+    ensures { λ r. ⌜ r ≡ sumsOf (rowOf (now (wr .entry)) (now (wi .entry))) (rowOf (now (xr .entry)) (now (xi .entry))) (rowOf (now (dr .entry)) (now (di .entry))) ⌝ }
+{
+    let mut s = Sums {
+        value: complex::zero(),
+        derivative: complex::zero(),
+        energy: 0.0,
+    };
+    let mut k = 0;
+    while k < 21 {
+        let w = Complex32 {
+            real: wr[k],
+            imaginary: wi[k],
+        };
+        let x = Complex32 {
+            real: xr[k],
+            imaginary: xi[k],
+        };
+        let dx = Complex32 {
+            real: dr[k],
+            imaginary: di[k],
+        };
+        s = tapped(s, w, x, dx);
+        k += 1;
+    }
+    s
+}
+
+// Each weight moves by step times the value times the conjugate of the window's value there. A step
+// of zero is a step still: zero times a NaN or an infinity is a NaN.
+fn adapt(
+    wr: &mut [f32; 21],
+    wi: &mut [f32; 21],
+    xr: &[f32; 21],
+    xi: &[f32; 21],
+    value: Complex32,
+    step: f32,
+)
+    ensures { λ r. ⌜ rowOf (now (wr .exit)) (now (wi .exit)) ≡ adaptedOf value step (rowOf (now (xr .entry)) (now (xi .entry))) (rowOf (now (wr .entry)) (now (wi .entry))) ⌝ }
+{
+    let mut k = 0;
+    while k < 21 {
+        let x = xr[k];
+        let y = xi[k];
+        wr[k] = wr[k] + step * (value.real * x + value.imaginary * y);
+        wi[k] = wi[k] + step * (value.imaginary * x - value.real * y);
+        k += 1;
+    }
+}
+
+// The sum of the weights' powers, in their order.
+fn norm(wr: &[f32; 21], wi: &[f32; 21]) -> f32
+    ensures { λ r. ⌜ r ≡ normOf (rowOf (now (wr .entry)) (now (wi .entry))) ⌝ }
+{
+    let mut sum = 0.0f32;
+    let mut k = 0;
+    while k < 21 {
+        let w = wr[k];
+        let v = wi[k];
+        sum = sum + (w * w + v * v);
+        k += 1;
+    }
+    sum
+}
+
+fn scale(wr: &mut [f32; 21], wi: &mut [f32; 21], gain: f32)
+    ensures { λ r. ⌜ rowOf (now (wr .exit)) (now (wi .exit)) ≡ scaledBy gain (rowOf (now (wr .entry)) (now (wi .entry))) ⌝ }
+{
+    let mut k = 0;
+    while k < 21 {
+        wr[k] = wr[k] * gain;
+        wi[k] = wi[k] * gain;
+        k += 1;
+    }
+}
+
+// Weights whose norm is above 16 are brought back to it.
+fn limit(wr: &mut [f32; 21], wi: &mut [f32; 21])
+    ensures { λ r. ⌜ rowOf (now (wr .exit)) (now (wi .exit)) ≡ limitedOf (rowOf (now (wr .entry)) (now (wi .entry))) ⌝ }
+{
+    let size = norm(wr, wi);
+    if size > 16.0 {
+        scale(wr, wi, 4.0 / sqrt32(size));
+    }
+}
+
+fn step_of(power: f32, energy: f32) -> f32
+    ensures { λ r. ⌜ r ≡ stepOf power energy ⌝ }
+{
+    ADAPTATION * clamp32(1.0 - power, -2.0, 1.0) / energy
+}
+
+fn learns(reliable: bool, energy: f32, power: f32) -> bool
+    ensures { λ r. ⌜ r ≡ learnsFrom reliable energy power ⌝ }
+{
+    reliable & (energy > 0.01) & is_finite32(energy) & is_finite32(power)
+}
+
+fn update(
+    wr: &mut [f32; 21],
+    wi: &mut [f32; 21],
+    xr: &[f32; 21],
+    xi: &[f32; 21],
+    s: Sums,
+    reliable: bool,
+)
+    ensures { λ r. ⌜ rowOf (now (wr .exit)) (now (wi .exit)) ≡ updatedOf s reliable (rowOf (now (xr .entry)) (now (xi .entry))) (rowOf (now (wr .entry)) (now (wi .entry))) ⌝ }
+{
+    let value = s.value;
+    let energy = s.energy;
+    let power = complex::power(value);
+    if learns(reliable, energy, power) {
+        adapt(wr, wi, xr, xi, value, step_of(power, energy));
+        limit(wr, wi);
+    }
+}
+
+// Half the product of the value and its derivative, kept in -1..=1; a NaN stays. Nothing while the
+// signal is not reliable.
+fn timing_error(s: Sums, reliable: bool) -> f32
+    ensures { λ r. ⌜ r ≡ timingOf s reliable ⌝ }
+{
+    let value = s.value;
+    let derivative = s.derivative;
+    if reliable {
+        let product = value.real * derivative.real + value.imaginary * derivative.imaginary;
+        clamp32(0.5 * product, -1.0, 1.0)
+    } else {
+        0.0
+    }
+}
+
+// One symbol from the windows, with the weights moved on.
+pub fn equalize(
+    wr: &mut [f32; 21],
+    wi: &mut [f32; 21],
+    xr: &[f32; 21],
+    xi: &[f32; 21],
+    dr: &[f32; 21],
+    di: &[f32; 21],
+    reliable: bool,
+) -> Equalized
+    ensures { λ r. ⌜ _≡_ {A = Step} (record { equalized = r; weights = rowOf (now (wr .exit)) (now (wi .exit)) }) (equalizedOf (rowOf (now (wr .entry)) (now (wi .entry))) (rowOf (now (xr .entry)) (now (xi .entry))) (rowOf (now (dr .entry)) (now (di .entry))) reliable) ⌝ }
+{
+    let s = tap_sums(wr, wi, xr, xi, dr, di);
+    update(wr, wi, xr, xi, s, reliable);
+    let value = s.value;
+    Equalized {
+        value,
+        timing: timing_error(s, reliable),
+    }
+}

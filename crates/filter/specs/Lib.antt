@@ -1,0 +1,3 @@
+pub mod Filter
+pub mod Fast
+pub mod Laws

@@ -1,0 +1,19 @@
+-- `numbers::bits::float` meets its contract. Assumes nothing.
+use lib.Ieee.{binary64, ofBits, div}
+use Rattle.numbers.specs.BitsLaws.{bits-nan, bits-number}
+use borrow.Author.Needs.{needs}
+use Rattle.numbers.proofs.bits.float.Statement.{statement}
+use Rattle.numbers.proofs.bits.float.Tie as tie
+
+float-from-bits-result : tie.Need-float-from-bits-result
+float-from-bits-result c = bits-number binary64 (c .before .args .b) (c .if1 .left)
+
+returns : tie.Need-returns
+unfolding ofBits div
+returns c = bits-nan binary64 (c .before .args .b) (c .if1 .taken)
+
+returns-2 : tie.Need-returns-2
+returns-2 c = search needs
+
+pub float-spec : {M : Type 1} → statement M
+float-spec = tie.close (tie.spec float-from-bits-result returns returns-2)

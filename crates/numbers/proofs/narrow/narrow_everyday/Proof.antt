@@ -1,0 +1,60 @@
+-- `numbers::narrow::narrow_everyday` meets its contract. Assumes nothing.
+use mathlib.Core.Path.{_≡_, sym, ap, _∙_, subst}
+use mathlib.Core.Bool.{not, cond}
+use Prim.Native.Nat.{ℕ, _+_, _*_, _/_, _^_, _<_}
+use native.Mathlib.Nat.{le-of-lt, lt-of-lt-of-le}
+use native.Mathlib.Omega.{arith}
+use lib.Dec.{T, leb, lit≤}
+use lib.Ieee.{binary32, ofBits, nanBits}
+use mir.Facts.{fits-of-lt}
+use Rattle.laws.specs.FloatPack.{no-nan-bits}
+use Rattle.numbers.proofs.Narrowing.{Everyday, everyday, kept, kept-lt, everyday-is, sign-bit, pattern-lt}
+use borrow.Author.Needs.{needs}
+use Rattle.numbers.proofs.narrow.narrow_everyday.Statement.{statement}
+use Rattle.numbers.proofs.narrow.narrow_everyday.Tie as tie
+
+-- b, and what the pattern comes to
+abbrev b : tie.Start → ℕ
+b c = c .args .b
+
+day : (c : tie.Start) → Everyday (b c)
+day c = everyday (b c) (c .pre)
+
+fits-b : (c : tie.Start) → b c < 2 ^ 64
+fits-b c = omega (arith, c .fits .b)
+
+-- the sign's bit and the pattern
+whole : (c : tie.Start) → b c / 9223372036854775808 * 2147483648 + kept (b c) (day c) ≡ cond (leb 9223372036854775808 (b c)) 2147483648 0 + kept (b c) (day c)
+whole c = ap (λ (x : ℕ). x + kept (b c) (day c)) (sign-bit (b c) (fits-b c))
+
+below : (c : tie.Start) → b c / 9223372036854775808 * 2147483648 + kept (b c) (day c) < 2 ^ 32
+below c = subst (λ (x : ℕ). x < 2 ^ 32) (sym (whole c)) (pattern-lt (leb 9223372036854775808 (b c)) (kept (b c) (day c)) (le-of-lt (kept-lt (b c) (day c))))
+
+sub-t : tie.Need-sub-t
+sub-t c = let h = day c .least in omega arith
+
+add-z : tie.Need-add-z
+add-z c = search needs
+
+add-z-2 : tie.Need-add-z-2
+add-z-2 c = search needs
+
+mul-result : tie.Need-mul-result
+mul-result c = search needs
+
+add-result : tie.Need-add-result
+add-result c = fits-of-lt (lt-of-lt-of-le (below c) (lit≤ tt))
+
+cast-result : tie.Need-cast-result
+cast-result c = fits-of-lt (below c)
+
+float-from-bits-result : tie.Need-float-from-bits-result
+float-from-bits-result c = subst (λ (x : ℕ). T (not (nanBits binary32 x))) (sym (whole c)) (no-nan-bits binary32 (leb 9223372036854775808 (b c)) (kept (b c) (day c)) (le-of-lt (kept-lt (b c) (day c))))
+
+returns : tie.Need-returns
+returns c = ap (ofBits binary32) (whole c) ∙ everyday-is (b c) (day c) (leb 9223372036854775808 (b c))
+
+pub narrow-everyday-spec : {M : Type 1} → statement M
+narrow-everyday-spec =
+    tie.close
+    (tie.spec sub-t add-z add-z-2 mul-result add-result cast-result float-from-bits-result returns)

@@ -1,0 +1,4 @@
+pub mod Peak
+pub mod Sized
+pub mod Columns
+pub mod Laws

@@ -1,0 +1,147 @@
+// Runs the decimator on each run of samples from standard input, from the run's own state, and
+// writes a line for each: the digest of what came out and of the state after it, in the order of the
+// list that the oracle prints.
+ghost use Prim.Native.Nat.{_+_, _<_, _≤_};
+ghost use lib.ListN.{length};
+use complex::Complex32;
+use decimator::Combs;
+use decimator::Decimator;
+use decimator::Delays;
+use decimator::Integrators;
+use decimator::Output;
+use decimator::Sums;
+use numbers::bits::float32;
+use replay::mixed;
+use replay::mixed_float32;
+use replay::print_line;
+use replay::word;
+
+// Three words from a place of a run's head on.
+fn sums(head: &[u8], at: usize) -> Sums
+    requires { ⌜ at + 24 ≤ length (now head) ⌝ }
+{
+    Sums {
+        first: word(head, at),
+        second: word(head, at + 8),
+        third: word(head, at + 16),
+    }
+}
+
+fn delays(head: &[u8], at: usize) -> Delays
+    requires { ⌜ at + 24 ≤ length (now head) ⌝ }
+{
+    Delays {
+        first: word(head, at),
+        second: word(head, at + 8),
+        third: word(head, at + 16),
+    }
+}
+
+// The decimator that a run's head gives.
+fn decoded(head: &[u8]) -> Decimator
+    requires { ⌜ 120 ≤ length (now head) ⌝ }
+{
+    let decimation = word(head, 0) as usize;
+    let counter = word(head, 8) as usize;
+    let integrators = Integrators {
+        real: sums(head, 16),
+        imaginary: sums(head, 40),
+    };
+    let combs = Combs {
+        real: delays(head, 64),
+        imaginary: delays(head, 88),
+    };
+    Decimator {
+        decimation,
+        counter,
+        integrators,
+        combs,
+    }
+}
+
+fn mixed_sums(h: u64, s: Sums) -> u64 {
+    mixed(mixed(mixed(h, s.first), s.second), s.third)
+}
+
+fn mixed_delays(h: u64, y: Delays) -> u64 {
+    mixed(mixed(mixed(h, y.first), y.second), y.third)
+}
+
+fn mixed_state(h: u64, d: Decimator) -> u64 {
+    let integrators = d.integrators;
+    let combs = d.combs;
+    let h1 = mixed(h, d.counter as u64);
+    let a = integrators.real;
+    let b = integrators.imaginary;
+    let h2 = mixed_sums(mixed_sums(h1, a), b);
+    let p = combs.real;
+    let q = combs.imaginary;
+    mixed_delays(mixed_delays(h2, p), q)
+}
+
+fn mixed_output(h: u64, o: Output) -> u64 {
+    match o {
+        Output::Nothing => mixed(h, 0),
+        Output::Value(v) => mixed_float32(mixed_float32(mixed(h, 1), v.real), v.imaginary),
+    }
+}
+
+fn low_half(a: u64) -> u32 {
+    (a % 0x1_0000_0000) as u32
+}
+
+fn high_half(a: u64) -> u32 {
+    (a / 0x1_0000_0000) as u32
+}
+
+fn sample(a: u64) -> Complex32 {
+    Complex32 {
+        real: float32(low_half(a)),
+        imaginary: float32(high_half(a)),
+    }
+}
+
+// The digest of a run: as many samples as it says, or as many as there are.
+fn digest(d0: Decimator, count: u64) -> u64
+    requires { ⌜ d0 .counter < d0 .decimation ⌝ }
+{
+    let mut d = d0;
+    let mut h: u64 = 0;
+    let mut left = count;
+    while left > 0 {
+        let mut bytes = [0u8; 8];
+        io::read_full(0, &mut bytes);
+        let s = decimator::stepped(d, sample(word(&bytes, 0)));
+        let next = s.decimator;
+        let output = s.output;
+        h = mixed_output(h, output);
+        d = next;
+        left -= 1;
+    }
+    mixed_state(h, d)
+}
+
+// Whether a run was read, and answered.
+fn answered() -> bool {
+    let mut head = [0u8; 120];
+    let got = io::read_full(0, &mut head);
+    if got < 120 {
+        return false;
+    }
+    let d = decoded(&head);
+    if d.counter < d.decimation {
+        print_line(digest(d, word(&head, 112)), 16);
+    }
+    true
+}
+
+fn main() {
+    let mut left: u64 = 1000000;
+    while left > 0 {
+        if answered() {
+            left -= 1;
+        } else {
+            left = 0;
+        }
+    }
+}

@@ -1,0 +1,63 @@
+-- `signal::read` meets its contract. Assumes nothing.
+use Rattle.signal.specs.Loops.{read-found, read-nothing}
+use borrow.Author.Needs.{needs}
+use Rattle.signal.proofs.read.Statement.{statement}
+use Rattle.signal.proofs.read.Tie as tie
+
+least-requires : tie.Need-least-requires
+least-requires c κs = search needs
+
+add-start : tie.Need-add-start
+add-start c = search needs
+
+sub-start : tie.Need-sub-start
+sub-start c = search needs
+
+power-sum-requires : tie.Need-power-sum-requires
+power-sum-requires c κs = search needs
+
+mean-requires : tie.Need-mean-requires
+mean-requires c κs = search needs
+
+is-usable-requires : tie.Need-is-usable-requires
+is-usable-requires c κs = search needs
+
+sqrt-requires : tie.Need-sqrt-requires
+sqrt-requires c κs = search needs
+
+write-points-requires : tie.Need-write-points-requires
+write-points-requires c κs = search needs
+
+mean-requires-2 : tie.Need-mean-requires-2
+mean-requires-2 c κs = search needs
+
+sqrt-requires-2 : tie.Need-sqrt-requires-2
+sqrt-requires-2 c κs = search needs
+
+same-length : tie.Need-same-length
+same-length c = search needs
+
+returns : tie.Need-returns
+returns c = read-found _ _ _ _ _ _ (c .before .before .before .before .before .before .before .before .before .before .before .before .least .ensures) (c .before .before .before .before .before .before .before .before .before .before .power-sum .ensures) (c .before .before .before .before .before .before .before .before .before .mean .ensures) (c .before .before .before .before .before .before .before .before .is-usable .ensures)
+    _ _ _ _ _ (c .before .before .before .before .before .before .before .if1 .taken) (c .before .before .before .before .before .before .sqrt .ensures) (c .before .before .before .before .write-points .ensures) (c .before .mean2 .ensures) (c .sqrt2 .ensures)
+
+returns-2 : tie.Need-returns-2
+returns-2 c = read-nothing _ _ _ _ _ _ (c .before .before .before .before .before .least .ensures) (c .before .before .before .power-sum .ensures) (c .before .before .mean .ensures) (c .before .is-usable .ensures) (c .if1 .left)
+
+pub read-spec : {M : Type 1} → statement M
+read-spec =
+    tie.close
+    (tie.spec
+    least-requires
+    add-start
+    sub-start
+    power-sum-requires
+    mean-requires
+    is-usable-requires
+    sqrt-requires
+    write-points-requires
+    mean-requires-2
+    sqrt-requires-2
+    same-length
+    returns
+    returns-2)

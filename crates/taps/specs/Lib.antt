@@ -1,0 +1,3 @@
+pub mod TapBits
+pub mod Taps
+pub mod Laws

@@ -1,0 +1,68 @@
+//! The help text of all subcommands.
+
+use crate::trace::STAGES;
+
+const BEFORE_STAGES: &str = "\
+oracle/run SUBCOMMAND ..    the upstream receiver with our five routines
+
+SAMPLES is a sample file of document 01, STATE a dumped state, LIST a list of inputs.
+
+  receive < SAMPLES
+      the sample program: a line per dibit, then four closing lines or `refused N`
+
+  signal [OPTION VALUE ..] > SAMPLES
+      a pi/4-DQPSK signal, the same on every machine:
+      --rate HZ (48000)  --offset HZ (0)  --samples N (48000)  --seed N (1)  --profile P (0)
+      --amplitude A (0.5)  --huge (1e30)  --tiny (1e-30)  --clip LEVEL
+      --noise DEVIATION  --drift PPM  --echo SYMBOLS,GAIN,TURN  --fade HZ,DEPTH
+      --neighbour HZ,GAIN,SAMPLES (off from then on)  --sent FILE (the sent dibits, a line each)
+
+  trace STAGE [--profile P | --state STATE] < SAMPLES
+      a line per value of the stage: its name, then bit patterns in hex and whole numbers, a
+      complex number as real, imaginary; STAGE `all` gives all but costs and channels; they are:
+";
+
+const AFTER_STAGES: &str = "
+  state dump [--profile P] < SAMPLES > STATE
+      the state after the samples, from a fresh receiver with the file's settings
+  state load STATE [--lines FILE] < SAMPLES > STATE
+      the state after one block from STATE (as given where refused); FILE gets the answer
+  state show < STATE
+      a line per word: name and value in hex
+  state view ROOM < STATE
+      the constellation read with room for ROOM points
+  state admitted < STATE
+      `admitted`, or `not admitted` with the first clause that fails
+  random-state SEED > STATE
+      a random admitted state with a random tap table
+
+  numbers inputs > LIST | numbers answers < LIST | numbers explain K < LIST
+      the list of inputs for the number helpers, records of three 8-byte words; a line per record,
+      the digest of all answers in 16 hex digits; or record K (from 0) with every answer by name
+  routines inputs > LIST | routines answers < LIST | routines explain K < LIST
+      the same for the five routines
+  decimator inputs > LIST | decimator answers < LIST
+      runs of samples for the decimator, each with its state; a line per run, the digest of its
+      values and its last state
+
+  view inputs > LIST | view answers < LIST
+      pushes and reads of the constellation view, and a digest of what each answered
+  equalizer inputs > LIST | equalizer answers < LIST
+      windows, weights and flags of the equalizer, and a digest of each step
+
+  taps matched | taps derivative | taps table RATE
+      the matched filter's 1,025 taps, their derivatives, or a rate's tap table, a line each
+  selftest [STATES]
+      the oracle's test of itself, on so many random states (400)
+  help
+      this text
+";
+
+pub fn print() -> Result<(), String> {
+    print!("{BEFORE_STAGES}");
+    for (stage, values) in STAGES {
+        println!("        {stage:10} {values}");
+    }
+    print!("{AFTER_STAGES}");
+    Ok(())
+}

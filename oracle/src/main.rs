@@ -1,0 +1,84 @@
+//! The oracle: the upstream receiver, opened, and our driver around it. One subcommand each.
+
+// The upstream files, changed by oracle/build.
+#[allow(dead_code)]
+mod dsp;
+#[allow(dead_code)]
+mod equalizer;
+#[allow(dead_code)]
+mod receiver;
+#[allow(dead_code)]
+mod sequence;
+#[allow(dead_code)]
+mod signal;
+
+// receiver.rs finds these beside itself.
+use dsp::{Complex32, Demodulator, Snapshot};
+
+// Where the upstream calls go: ours in one binary, the machine's in the other.
+#[allow(dead_code)]
+mod platform;
+#[allow(dead_code)]
+mod routines;
+
+mod accuracy;
+mod admitted;
+mod calls;
+mod chosen;
+mod equalizer_list;
+mod decimator_list;
+mod generator;
+mod help;
+mod helpers;
+mod list;
+mod numbers;
+mod options;
+mod plan;
+mod random;
+mod random_state;
+mod receive;
+mod routine_list;
+mod samples;
+mod selftest;
+mod state;
+mod table;
+mod taps;
+mod trace;
+mod trellis;
+mod view_list;
+mod words;
+
+use std::process::ExitCode;
+
+type Outcome = Result<(), String>;
+
+fn main() -> ExitCode {
+    let arguments: Vec<String> = std::env::args().skip(1).collect();
+    let words: Vec<&str> = arguments.iter().map(String::as_str).collect();
+    match run(&words) {
+        Ok(()) => ExitCode::SUCCESS,
+        Err(message) => {
+            eprintln!("oracle: {message}");
+            ExitCode::FAILURE
+        }
+    }
+}
+
+fn run(words: &[&str]) -> Outcome {
+    match words {
+        ["help"] => help::print(),
+        ["receive"] => receive::receive(),
+        ["signal", rest @ ..] => generator::run(rest),
+        ["trace", rest @ ..] => trace::run(rest),
+        ["state", rest @ ..] => calls::run(rest),
+        ["random-state", seed] => calls::write_random(seed),
+        ["numbers", rest @ ..] => numbers::run(rest),
+        ["routines", rest @ ..] => routine_list::run(rest),
+        ["view", rest @ ..] => view_list::run(rest),
+        ["equalizer", rest @ ..] => equalizer_list::run(rest),
+        ["decimator", rest @ ..] => decimator_list::run(rest),
+        ["taps", rest @ ..] => taps::run(rest),
+        ["selftest", rest @ ..] => selftest::run(rest),
+        _ => Err("no such subcommand; oracle/run help lists them".into()),
+    }
+}

@@ -1,0 +1,45 @@
+//! The detector's sums, made again for the trace: the upstream keeps them only less the best one.
+
+use crate::sequence::{Sequence, SYMBOLS};
+use crate::Complex32;
+
+/// The cheapest sum into each state, before the best one is taken off.
+pub fn raw_costs(s: &Sequence, input: Complex32, reliable: bool) -> [f32; 64] {
+    let mut costs = [f32::INFINITY; 64];
+    for prior in 0..64 {
+        for current in 0..4 {
+            let cost = s.costs[prior] + metric(s, prior, current, input, reliable);
+            let state = current + 4 * (prior % 16);
+            if cost < costs[state] {
+                costs[state] = cost;
+            }
+        }
+    }
+    costs
+}
+
+fn metric(s: &Sequence, prior: usize, current: usize, input: Complex32, reliable: bool) -> f32 {
+    if !reliable {
+        return 0.0;
+    }
+    let path = [current, prior % 4, prior / 4 % 4, prior / 16];
+    let mut prediction = Complex32::default();
+    for (h, place) in s.channels[prior].iter().zip(path) {
+        let symbol = SYMBOLS[place];
+        prediction.real += h.real * symbol.real - h.imaginary * symbol.imaginary;
+        prediction.imaginary += h.real * symbol.imaginary + h.imaginary * symbol.real;
+    }
+    let x = input.real - prediction.real;
+    let y = input.imaginary - prediction.imaginary;
+    (x * x + y * y).min(16.0)
+}
+
+pub fn first_cheapest(costs: &[f32; 64]) -> usize {
+    let mut best = 0;
+    for state in 1..64 {
+        if costs[state].total_cmp(&costs[best]).is_lt() {
+            best = state;
+        }
+    }
+    best
+}
