@@ -1,0 +1,23 @@
+-- `tracker::follow::follow` meets its contract. Assumes nothing.
+use Rattle.tracker.specs.Laws.{real-length, imaginary-length, followed-yes, followed-no}
+use borrow.Author.Needs.{needs}
+use Rattle.tracker.proofs.follow.follow.Statement.{statement}
+use Rattle.tracker.proofs.follow.follow.Tie as tie
+
+learn-requires : tie.Need-learn-requires
+learn-requires c κs = search needs
+
+limit-requires : tie.Need-limit-requires
+limit-requires c κs = (real-length _ _ (c .before .before .before .learn .ensures .0), imaginary-length _ _ (c .before .before .before .learn .ensures .1 .0))
+
+inherit-requires : tie.Need-inherit-requires
+inherit-requires c κs = search needs
+
+returns : tie.Need-returns
+returns c = followed-yes _ _ _ _ _ _ _ _ _ _ (c .before .before .before .before .before .before .before .before .before .before .if1 .taken) (c .before .before .before .before .learn .ensures .0) (c .before .before .before .before .learn .ensures .1 .0) (c .before .before .before .before .learn .ensures .1 .1) (c .limit .ensures .0) (c .limit .ensures .1)
+
+returns-2 : tie.Need-returns-2
+returns-2 c = followed-no _ _ _ _ _ _ _ (c .before .before .before .before .before .if1 .left) (c .inherit .ensures .0) (c .inherit .ensures .1)
+
+pub follow-spec : {M : Type 1} → statement M
+follow-spec = tie.close (tie.spec learn-requires limit-requires inherit-requires returns returns-2)

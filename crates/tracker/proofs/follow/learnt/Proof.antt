@@ -1,0 +1,47 @@
+-- `tracker::follow::learnt` meets its contract. Assumes nothing.
+use Rattle.tracker.specs.Tracker.{learntOf}
+use borrow.Author.Needs.{needs}
+use Rattle.tracker.proofs.follow.learnt.Statement.{statement}
+use Rattle.tracker.proofs.follow.learnt.Tie as tie
+
+symbol-requires : tie.Need-symbol-requires
+symbol-requires c κs = search needs
+
+moved-requires : tie.Need-moved-requires
+moved-requires c κs = search needs
+
+symbol-requires-2 : tie.Need-symbol-requires-2
+symbol-requires-2 c κs = search needs
+
+moved-requires-2 : tie.Need-moved-requires-2
+moved-requires-2 c κs = search needs
+
+symbol-requires-3 : tie.Need-symbol-requires-3
+symbol-requires-3 c κs = search needs
+
+moved-requires-3 : tie.Need-moved-requires-3
+moved-requires-3 c κs = search needs
+
+symbol-requires-4 : tie.Need-symbol-requires-4
+symbol-requires-4 c κs = search needs
+
+moved-requires-4 : tie.Need-moved-requires-4
+moved-requires-4 c κs = search needs
+
+returns : tie.Need-returns
+unfolding learntOf
+returns c = rw (c .moved4 .ensures, c .before .symbol4 .ensures, c .before .before .moved3 .ensures, c .before .before .before .symbol3 .ensures, c .before .before .before .before .moved2 .ensures, c .before .before .before .before .before .symbol2 .ensures, c .before .before .before .before .before .before .moved .ensures, c .before .before .before .before .before .before .before .symbol .ensures)
+
+pub learnt-spec : {M : Type 1} → statement M
+learnt-spec =
+    tie.close
+    (tie.spec
+    symbol-requires
+    moved-requires
+    symbol-requires-2
+    moved-requires-2
+    symbol-requires-3
+    moved-requires-3
+    symbol-requires-4
+    moved-requires-4
+    returns)

@@ -1,0 +1,14 @@
+-- `tracker::symbols::imaginary` meets its contract. Assumes nothing.
+use Rattle.tracker.specs.Laws.{imaginary-plus, imaginary-minus}
+use borrow.Author.Needs.{needs}
+use Rattle.tracker.proofs.symbols.imaginary.Statement.{statement}
+use Rattle.tracker.proofs.symbols.imaginary.Tie as tie
+
+returns : tie.Need-returns
+returns c = imaginary-plus _ (c .if1 .taken)
+
+returns-2 : tie.Need-returns-2
+returns-2 c = imaginary-minus (c .before .args .k) (search needs) (search needs)
+
+pub imaginary-spec : {M : Type 1} → statement M
+imaginary-spec = tie.close (tie.spec returns returns-2)

@@ -1,0 +1,187 @@
+-- What the proofs of the tracker's functions apply, over plain variables. Assumes nothing.
+use mathlib.Core.Path.{_≡_, refl, sym, ap, _∙_}
+use Prim.Native.Nat.{ℕ, zero, suc, _+_, _/_, _%_, _≤_, _<_}
+use native.Mathlib.Omega.{arith}
+use mathlib.Core.List.{List}
+use lib.ListN.{length, set, getD}
+use mathlib.Core.Bool.{Bool, true, false, cond}
+use lib.Ieee.{Float, nan, binary32, ofBits, neg, mul, div, lt}
+use Rattle.laws.specs.Turns.{turns, turns-step}
+use Rattle.laws.specs.Places.{upto, length-upto, upto-at, upto-same, fill, fill-step}
+use Rattle.complex.specs.declared.Complex32.{Complex32}
+use Rattle.complex.specs.Complex.{differenceOf, scaledOf}
+use Rattle.numbers.specs.Root.{sqrtOf}
+use Rattle.tracker.specs.declared.taps.Taps.{Taps}
+use Rattle.tracker.specs.Stripes.{column, columns, columns-length, column-same}
+use Rattle.tracker.specs.Tracker.{level, realOf, imaginaryOf, symbolOf, Planes, pointAt, termOf, predictionOf, tapsOf, learntOf, normOf, gainOf, scaledTaps, limitedOf, inheritedAt, learntAt, tapsAfter, tapOf, laidOut, followedOf}
+use Rattle.tracker.specs.Layout.{pastOf, predictionWith, putOf, limitedPart, limitedAt, scaledColumn, limitColumn}
+
+-- ---- the symbols' signs
+pub real-plus : (k : ℕ) → k < 4 → (k + 1) % 4 < 2 → level ≡ realOf k
+real-plus zero h l = refl
+real-plus (suc zero) h l = absurd (omega arith)
+real-plus (suc (suc zero)) h l = absurd (omega arith)
+real-plus (suc (suc (suc zero))) h l = refl
+real-plus (suc (suc (suc (suc k)))) h l = absurd (omega arith)
+
+pub real-minus : (k : ℕ) → k < 4 → 2 ≤ (k + 1) % 4 → neg level ≡ realOf k
+real-minus zero h l = absurd (omega arith)
+real-minus (suc zero) h l = refl
+real-minus (suc (suc zero)) h l = refl
+real-minus (suc (suc (suc zero))) h l = absurd (omega arith)
+real-minus (suc (suc (suc (suc k)))) h l = absurd (omega arith)
+
+pub imaginary-plus : (k : ℕ) → k < 2 → level ≡ imaginaryOf k
+imaginary-plus zero h = refl
+imaginary-plus (suc zero) h = refl
+imaginary-plus (suc (suc k)) h = absurd (omega arith)
+
+pub imaginary-minus : (k : ℕ) → k < 4 → 2 ≤ k → neg level ≡ imaginaryOf k
+imaginary-minus zero h l = absurd (omega arith)
+imaginary-minus (suc zero) h l = absurd (omega arith)
+imaginary-minus (suc (suc zero)) h l = refl
+imaginary-minus (suc (suc (suc zero))) h l = refl
+imaginary-minus (suc (suc (suc (suc k)))) h l = absurd (omega arith)
+
+-- ---- the past terms' planes
+unfoldable pub pastTurn : (Complex32 → Float) → Planes → ℕ → List Float → List Float
+pastTurn part c = column nan (λ t p x. part (pastOf c t p)) 3
+
+pub past-step : (part : Complex32 → Float) (c : Planes) (p : ℕ) (l m : List Float) (one two three : Complex32)
+    → one ≡ termOf c (p + 64) (p % 4) → two ≡ termOf c (p + 128) (p / 4 % 4) → three ≡ termOf c (p + 192) (p / 16)
+    → m ≡ turns (pastTurn part c) p l
+    → set (set (set m p (part one)) (p + 64) (part two)) (p + 128) (part three) ≡ turns (pastTurn part c) (p + 1) l
+unfolding pastTurn column
+past-step part c p l m one two three e f g h = rw (e, f, g) (turns-step (pastTurn part c) p l m h)
+
+pub past-end : (part : Complex32 → Float) (c : Planes) (p : ℕ) (l m : List Float) → m ≡ turns (pastTurn part c) p l → p ≤ 64 → 64 ≤ p → length l ≡ 192
+    → m ≡ upto (λ i. part (pastOf c (i / 64) (i % 64))) 192
+unfolding pastTurn
+past-end part c = columns nan (λ t p x. part (pastOf c t p)) 3
+
+-- ---- the prediction from the planes is the prediction
+pub prediction-is : (c past : Planes) (k p : ℕ) → p < 64
+    → past .real ≡ upto (λ i. pastOf c (i / 64) (i % 64) .real) 192 → past .imaginary ≡ upto (λ i. pastOf c (i / 64) (i % 64) .imaginary) 192
+    → predictionWith c past (symbolOf k) p ≡ predictionOf c k p
+prediction-is c past k p h e f =
+    rw (
+      real-is 0 p (omega arith) (omega arith) (omega arith),
+      real-is 1 (p + 64) (omega arith) (omega arith) (omega arith),
+      real-is 2 (p + 128) (omega arith) (omega arith) (omega arith),
+      imaginary-is 0 p (omega arith) (omega arith) (omega arith),
+      imaginary-is 1 (p + 64) (omega arith) (omega arith) (omega arith),
+      imaginary-is 2 (p + 128) (omega arith) (omega arith) (omega arith),
+    )
+  where
+    real-is : (t i : ℕ) → i < 192 → i / 64 ≡ t → i % 64 ≡ p → getD (past .real) i nan ≡ pastOf c t p .real
+    real-is t i b q r = rw (e, upto-at (λ i. pastOf c (i / 64) (i % 64) .real) 192 i nan b, q, r)
+
+    imaginary-is : (t i : ℕ) → i < 192 → i / 64 ≡ t → i % 64 ≡ p → getD (past .imaginary) i nan ≡ pastOf c t p .imaginary
+    imaginary-is t i b q r = rw (f, upto-at (λ i. pastOf c (i / 64) (i % 64) .imaginary) 192 i nan b, q, r)
+
+-- ---- a loop that lays out each state's taps
+unfoldable pub putTurn : (Complex32 → Float) → (ℕ → Taps) → ℕ → List Float → List Float
+putTurn part f = column nan (λ k s x. part (tapOf (f s) k)) 4
+
+pub put-step : (part : Complex32 → Float) (f : ℕ → Taps) (s : ℕ) (l m v : List Float) (t : Taps)
+    → t ≡ f s → v ≡ putOf m s (part (t .main)) (part (t .one)) (part (t .two)) (part (t .three))
+    → m ≡ turns (putTurn part f) s l → v ≡ turns (putTurn part f) (s + 1) l
+unfolding putTurn column
+put-step part f s l m v t e g h = g ∙ rw e (turns-step (putTurn part f) s l m h)
+
+pub put-length : (part : Complex32 → Float) (f : ℕ → Taps) (s : ℕ) (l m : List Float) → m ≡ turns (putTurn part f) s l → length m ≡ length l
+unfolding putTurn
+put-length part f = columns-length nan (λ k s x. part (tapOf (f s) k)) 4
+
+put-end : (part : Complex32 → Float) (f : ℕ → Taps) (s : ℕ) (l m : List Float) → m ≡ turns (putTurn part f) s l → s ≤ 64 → 64 ≤ s → length l ≡ 256
+    → m ≡ upto (λ i. part (tapOf (f (i % 64)) (i / 64))) 256
+unfolding putTurn
+put-end part f = columns nan (λ k s x. part (tapOf (f s) k)) 4
+
+pub real-end : (f : ℕ → Taps) (s : ℕ) (l m : List Float) → m ≡ turns (putTurn (λ z. z .real) f) s l → s ≤ 64 → 64 ≤ s → length l ≡ 256 → m ≡ laidOut f .real
+unfolding laidOut
+real-end = put-end (λ z. z .real)
+
+pub imaginary-end : (f : ℕ → Taps) (s : ℕ) (l m : List Float) → m ≡ turns (putTurn (λ z. z .imaginary) f) s l → s ≤ 64 → 64 ≤ s → length l ≡ 256 → m ≡ laidOut f .imaginary
+unfolding laidOut
+imaginary-end = put-end (λ z. z .imaginary)
+
+-- a plane of it has 256 places
+pub real-length : (f : ℕ → Taps) (l : List Float) → l ≡ laidOut f .real → length l ≡ 256
+unfolding laidOut
+real-length f l h = ap length h ∙ length-upto _ 256
+
+pub imaginary-length : (f : ℕ → Taps) (l : List Float) → l ≡ laidOut f .imaginary → length l ≡ 256
+unfolding laidOut
+imaginary-length f l h = ap length h ∙ length-upto _ 256
+
+pub norms-step : (f : ℕ → Taps) (s : ℕ) (l m : List Float) (n : Float) (t : Taps) → t ≡ f s → n ≡ normOf t → m ≡ fill (λ k. normOf (f k)) s l → set m s n ≡ fill (λ k. normOf (f k)) (s + 1) l
+norms-step f s l m n t e g h = fill-step (λ k. normOf (f k)) s l m (set m s n) (ap (set m s) (g ∙ ap normOf e)) h
+
+-- ---- the limit
+pub limit-yes : (norm root : Float) (s : ℕ) (l m : List Float) → lt (ofBits binary32 1098907648) norm ≡ true → root ≡ sqrtOf binary32 norm
+    → m ≡ scaledColumn (div binary32 (ofBits binary32 1082130432) root) s l → m ≡ limitColumn norm s l
+unfolding scaledColumn limitColumn limitedPart gainOf
+limit-yes norm root s l m t e h =
+    h ∙ ap (λ (z : Float). column nan (λ t s x. mul binary32 x (div binary32 (ofBits binary32 1082130432) z)) 4 s l) e
+    ∙ ap (λ (b : Bool). column nan (λ t s x. cond b (mul binary32 x (div binary32 (ofBits binary32 1082130432) (sqrtOf binary32 norm))) x) 4 s l) (sym t)
+
+pub limit-no : (norm : Float) (s : ℕ) (l : List Float) → lt (ofBits binary32 1098907648) norm ≡ false → l ≡ limitColumn norm s l
+unfolding limitColumn limitedPart
+limit-no norm s l t = column-same nan (λ t s x. limitedPart norm x) 4 s l (λ k x. rw t)
+
+unfoldable pub limitTurn : List Float → ℕ → List Float → List Float
+limitTurn norms = column nan (λ t s x. limitedPart (getD norms s nan) x) 4
+
+pub limit-step : (norms : List Float) (s : ℕ) (l m v : List Float) → v ≡ limitColumn (getD norms s nan) s m → m ≡ turns (limitTurn norms) s l → v ≡ turns (limitTurn norms) (s + 1) l
+unfolding limitTurn limitColumn column
+limit-step norms s l m v e h = e ∙ turns-step (limitTurn norms) s l m h
+
+pub limit-length : (norms : List Float) (s : ℕ) (l m : List Float) → m ≡ turns (limitTurn norms) s l → length m ≡ length l
+unfolding limitTurn
+limit-length norms = columns-length nan (λ t s x. limitedPart (getD norms s nan) x) 4
+
+pub limit-end : (norms : List Float) (s : ℕ) (l m : List Float) → m ≡ turns (limitTurn norms) s l → s ≤ 64 → 64 ≤ s → length l ≡ 256 → m ≡ upto (limitedAt norms l) 256
+unfolding limitTurn
+limit-end norms = columns nan (λ t s x. limitedPart (getD norms s nan) x) 4
+
+-- ---- the step
+pub learnt-is : (c : Planes) (parents : List ℕ) (guesses : Planes) (input : Complex32) (s : ℕ) (r t : Taps) (e : Complex32)
+    → t ≡ tapsOf c (getD parents s 0) → e ≡ differenceOf input (pointAt guesses s) → r ≡ learntOf t e (s % 4) (getD parents s 0) → r ≡ learntAt c parents guesses input s
+unfolding learntAt
+learnt-is c parents guesses input s r t e p q h = h ∙ ap (λ (z : Taps). learntOf z e (s % 4) (getD parents s 0)) p ∙ ap (λ (z : Complex32). learntOf (tapsOf c (getD parents s 0)) z (s % 4) (getD parents s 0)) q
+
+-- limiting each part is limiting the taps
+module _ (part : Complex32 → Float) (scales : (z : Complex32) (gain : Float) → part (scaledOf z gain) ≡ mul binary32 (part z) gain) where
+  part-limited : (t : Taps) (k : ℕ) → k < 4 → limitedPart (normOf t) (part (tapOf t k)) ≡ part (tapOf (limitedOf t) k)
+  unfolding limitedPart limitedOf
+  part-limited t k h = go (lt (ofBits binary32 1098907648) (normOf t)) k h
+    where
+      go : (b : Bool) (k : ℕ) → k < 4 → cond b (mul binary32 (part (tapOf t k)) (gainOf (normOf t))) (part (tapOf t k)) ≡ part (tapOf (cond b (scaledTaps t (gainOf (normOf t))) t) k)
+      go true zero h = sym (scales (t .main) (gainOf (normOf t)))
+      go true (suc zero) h = sym (scales (t .one) (gainOf (normOf t)))
+      go true (suc (suc zero)) h = sym (scales (t .two) (gainOf (normOf t)))
+      go true (suc (suc (suc zero))) h = sym (scales (t .three) (gainOf (normOf t)))
+      go true (suc (suc (suc (suc k)))) h = absurd (omega arith)
+      go false k h = refl
+
+  plane-limited : (f : ℕ → Taps) (norms l m : List Float)
+      → l ≡ upto (λ i. part (tapOf (f (i % 64)) (i / 64))) 256 → norms ≡ upto (λ s. normOf (f s)) 64 → m ≡ upto (limitedAt norms l) 256
+      → m ≡ upto (λ i. part (tapOf (limitedOf (f (i % 64))) (i / 64))) 256
+  plane-limited f norms l m e g h =
+      h ∙ upto-same (limitedAt norms l) (λ i. part (tapOf (limitedOf (f (i % 64))) (i / 64))) 256
+      (λ i b. rw (e, g, upto-at (λ i. part (tapOf (f (i % 64)) (i / 64))) 256 i nan b, upto-at (λ s. normOf (f s)) 64 (i % 64) nan (omega arith)) (part-limited (f (i % 64)) (i / 64) (omega arith)))
+
+module _ (c : Planes) (parents : List ℕ) (guesses : Planes) (input : Complex32) (reliable : Bool) where
+  pub followed-yes : (a b norms x y : List Float) → reliable ≡ true
+      → a ≡ laidOut (learntAt c parents guesses input) .real → b ≡ laidOut (learntAt c parents guesses input) .imaginary → norms ≡ upto (λ s. normOf (learntAt c parents guesses input s)) 64
+      → x ≡ upto (limitedAt norms a) 256 → y ≡ upto (limitedAt norms b) 256
+      → _≡_ {A = Planes} (record { real = x; imaginary = y }) (followedOf c parents guesses input reliable)
+  unfolding laidOut followedOf tapsAfter
+  followed-yes a b norms x y t p q n u v =
+      rw (t, plane-limited (λ z. z .real) (λ z gain. refl) (learntAt c parents guesses input) norms a x p n u, plane-limited (λ z. z .imaginary) (λ z gain. refl) (learntAt c parents guesses input) norms b y q n v)
+
+  pub followed-no : (x y : List Float) → reliable ≡ false → x ≡ laidOut (inheritedAt c parents) .real → y ≡ laidOut (inheritedAt c parents) .imaginary
+      → _≡_ {A = Planes} (record { real = x; imaginary = y }) (followedOf c parents guesses input reliable)
+  unfolding laidOut followedOf tapsAfter
+  followed-no x y t u v = rw (t, u, v)

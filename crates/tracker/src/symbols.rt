@@ -1,0 +1,32 @@
+// The four symbols, a quarter turn apart, each of size 1.
+ghost use mathlib.Core.Path.{_≡_};
+ghost use Prim.Native.Nat.{_<_};
+ghost use Rattle.tracker.specs.Tracker.{realOf, imaginaryOf, symbolOf};
+use complex::Complex32;
+
+// 1 / sqrt(2)
+const LEVEL: f32 = 0.70710677;
+
+fn real(k: u32) -> f32
+    requires { ⌜ k < 4 ⌝ }
+    ensures { λ r. ⌜ r ≡ realOf k ⌝ }
+{
+    if (k + 1) % 4 < 2 { LEVEL } else { -LEVEL }
+}
+
+fn imaginary(k: u32) -> f32
+    requires { ⌜ k < 4 ⌝ }
+    ensures { λ r. ⌜ r ≡ imaginaryOf k ⌝ }
+{
+    if k < 2 { LEVEL } else { -LEVEL }
+}
+
+pub fn symbol(k: u32) -> Complex32
+    requires { ⌜ k < 4 ⌝ }
+    ensures { λ r. ⌜ r ≡ symbolOf k ⌝ }
+{
+    Complex32 {
+        real: real(k),
+        imaginary: imaginary(k),
+    }
+}

@@ -1,0 +1,72 @@
+// The four taps of one state, read from the planes and written there.
+ghost use mathlib.Core.Path.{_≡_};
+ghost use Prim.Native.Nat.{_<_};
+ghost use lib.ListN.{length};
+ghost use Rattle.tracker.specs.Layout.{putOf};
+ghost use Rattle.tracker.specs.Tracker.{Planes, tapsOf};
+use complex::Complex32;
+
+// For the newest symbol and the three before it.
+pub struct Taps {
+    pub main: Complex32,
+    pub one: Complex32,
+    pub two: Complex32,
+    pub three: Complex32,
+}
+
+pub fn taps_at(real: &[f32; 256], imaginary: &[f32; 256], state: usize) -> Taps
+    requires { ⌜ state < 64 ⌝ }
+    ensures { λ r. ⌜ r ≡ tapsOf (record { real = now (real .entry); imaginary = now (imaginary .entry) }) state ⌝ }
+{
+    Taps {
+        main: Complex32 {
+            real: real[state],
+            imaginary: imaginary[state],
+        },
+        one: Complex32 {
+            real: real[state + 64],
+            imaginary: imaginary[state + 64],
+        },
+        two: Complex32 {
+            real: real[state + 128],
+            imaginary: imaginary[state + 128],
+        },
+        three: Complex32 {
+            real: real[state + 192],
+            imaginary: imaginary[state + 192],
+        },
+    }
+}
+
+fn put(plane: &mut [f32; 256], state: usize, main: f32, one: f32, two: f32, three: f32)
+    requires { ⌜ (state < 64) × (length (now plane) ≡ 256) ⌝ }
+    ensures { λ r. ⌜ now (plane .exit) ≡ putOf (now (plane .entry)) state main one two three ⌝ }
+{
+    plane[state] = main;
+    plane[state + 64] = one;
+    plane[state + 128] = two;
+    plane[state + 192] = three;
+}
+
+pub fn put_taps(real: &mut [f32; 256], imaginary: &mut [f32; 256], state: usize, t: Taps)
+    requires { ⌜ (state < 64) × (length (now real) ≡ 256) × (length (now imaginary) ≡ 256) ⌝ }
+    ensures { λ r. ⌜ now (real .exit) ≡ putOf (now (real .entry)) state (t .main .real) (t .one .real) (t .two .real) (t .three .real) ⌝ }
+    ensures { λ r. ⌜ now (imaginary .exit) ≡ putOf (now (imaginary .entry)) state (t .main .imaginary) (t .one .imaginary) (t .two .imaginary) (t .three .imaginary) ⌝ }
+{
+    put(
+        real,
+        state,
+        t.main.real,
+        t.one.real,
+        t.two.real,
+        t.three.real,
+    );
+    put(
+        imaginary,
+        state,
+        t.main.imaginary,
+        t.one.imaginary,
+        t.two.imaginary,
+        t.three.imaginary,
+    );
+}

@@ -1,0 +1,43 @@
+-- `trellis::step::sweep` meets its contract. Assumes nothing.
+use mathlib.Core.Path.{ap, _∙_}
+use lib.ListN.{length}
+use Rattle.laws.specs.Places.{length-upto}
+use Rattle.trellis.specs.Laws.{sweep-is}
+use borrow.Author.Needs.{needs}
+use Rattle.trellis.proofs.step.sweep.Statement.{statement}
+use Rattle.trellis.proofs.step.sweep.Tie as tie
+
+cast-symbol : tie.Need-cast-symbol
+cast-symbol c = search needs
+
+symbol-requires : tie.Need-symbol-requires
+symbol-requires c κs = search needs
+
+branches-requires : tie.Need-branches-requires
+branches-requires c κs = search needs
+
+mul-choose : tie.Need-mul-choose
+mul-choose c = search needs
+
+choose-requires : tie.Need-choose-requires
+choose-requires c κs = search needs
+
+returns : tie.Need-returns
+returns c = (
+  sweep-is (λ b. b .cost) _ _ _ _ _ _ _ _ _ _ _ _ _ (c .before .before .before .before .before .before .before .before .before .before .before .before .symbol .ensures) (c .before .before .before .before .before .before .before .before .branches .ensures .0) (c .before .before .before .before .before .before .before .before .branches .ensures .1 .0) (c .before .before .before .before .before .before .before .before .branches .ensures .1 .1) (c .choose .ensures .0),
+  (
+    sweep-is (λ b. b .prior) _ _ _ _ _ _ _ _ _ _ _ _ _ (c .before .before .before .before .before .before .before .before .before .before .before .before .symbol .ensures) (c .before .before .before .before .before .before .before .before .branches .ensures .0) (c .before .before .before .before .before .before .before .before .branches .ensures .1 .0) (c .before .before .before .before .before .before .before .before .branches .ensures .1 .1) (c .choose .ensures .1 .0),
+    (
+      sweep-is (λ b. b .real) _ _ _ _ _ _ _ _ _ _ _ _ _ (c .before .before .before .before .before .before .before .before .before .before .before .before .symbol .ensures) (c .before .before .before .before .before .before .before .before .branches .ensures .0) (c .before .before .before .before .before .before .before .before .branches .ensures .1 .0) (c .before .before .before .before .before .before .before .before .branches .ensures .1 .1) (c .choose .ensures .1 .1 .0),
+      (
+        sweep-is (λ b. b .imaginary) _ _ _ _ _ _ _ _ _ _ _ _ _ (c .before .before .before .before .before .before .before .before .before .before .before .before .symbol .ensures) (c .before .before .before .before .before .before .before .before .branches .ensures .0) (c .before .before .before .before .before .before .before .before .branches .ensures .1 .0) (c .before .before .before .before .before .before .before .before .branches .ensures .1 .1) (c .choose .ensures .1 .1 .1),
+        (ap length (c .before .before .before .before .before .before .before .before .branches .ensures .0) ∙ length-upto _ 64, ap length (c .before .before .before .before .before .before .before .before .branches .ensures .1 .0) ∙ length-upto _ 64, ap length (c .before .before .before .before .before .before .before .before .branches .ensures .1 .1) ∙ length-upto _ 64),
+      ),
+    ),
+  ),
+)
+
+pub sweep-spec : {M : Type 1} → statement M
+sweep-spec =
+    tie.close
+    (tie.spec cast-symbol symbol-requires branches-requires mul-choose choose-requires returns)

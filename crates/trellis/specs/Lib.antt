@@ -1,0 +1,10 @@
+pub mod Trellis
+pub mod Layout
+pub mod Runs
+pub mod Order
+pub mod Best
+pub mod Metric
+pub mod Arrivals
+pub mod Laws
+pub mod Costs
+pub mod Bound
