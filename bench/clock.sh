@@ -12,9 +12,7 @@ room=$top/target/bench/clock
 rm -rf "$room"
 mkdir -p "$room/crates/bench/src" "$room/rust"
 
-ours=(laws numbers complex routines taps filter clock oscillator replay)
-for crate in "${ours[@]}"; do
-    [ -d "$top/crates/$crate" ] || continue
+for crate in laws numbers complex routines taps filter clock oscillator replay; do
     mkdir "$room/crates/$crate"
     cp -R "$top/crates/$crate/src" "$room/crates/$crate/"
     grep "^$crate:" "$top/crates.txt" >>"$room/crates.txt"
