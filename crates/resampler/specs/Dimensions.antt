@@ -1,0 +1,42 @@
+-- What follows from the input's rate: the decimation d, the rate after it, the arm length c and the step. Definitions only.
+use Prim.Native.Nat.{ℕ, _/_, max}
+use lib.IntN.{pos}
+use lib.Ieee.{Float, binary64, ofBits, ofInt, toUnsigned, mul, div}
+use Rattle.numbers.specs.Numbers.{wholeOf, away}
+use Rattle.resampler.specs.declared.dimensions.Dimensions.{Dimensions}
+use Rattle.resampler.specs.declared.pass.Resampler.{Resampler}
+
+-- to the nearest whole number, a half away from zero
+abbrev pub nearestOf : Float → ℕ
+nearestOf x = toUnsigned 64 (wholeOf away binary64 x)
+
+-- rate / 256000, at least 1
+unfoldable pub decimationOf : Float → ℕ
+unfolding div wholeOf toUnsigned
+decimationOf rate = max (nearestOf (div binary64 rate (ofBits binary64 0x410f_4000_0000_0000))) 1
+
+-- values a second after decimation
+unfoldable pub decimatedOf : Float → Float
+unfolding decimationOf
+decimatedOf rate = div binary64 rate (ofInt binary64 (pos (decimationOf rate)))
+
+-- 0.0015 of them, at least 8
+unfoldable pub armOf : Float → ℕ
+unfolding mul wholeOf toUnsigned
+armOf decimated = max (nearestOf (mul binary64 (ofBits binary64 0x3f58_9374_bc6a_7efa) decimated)) 8
+
+unfoldable pub sizedOf : Float → Dimensions
+unfolding decimationOf decimatedOf armOf
+sizedOf rate = record { decimation = decimationOf rate; arm = armOf (decimatedOf rate); rate = decimatedOf rate }
+
+-- nothing has come in; the first output lies half an arm in
+unfoldable pub freshOf : Dimensions → Resampler
+unfolding div ofInt
+freshOf s = record {
+  arm = s .arm;
+  half = s .arm / 2;
+  step = div binary64 (s .rate) (ofBits binary64 0x40d2_c000_0000_0000);
+  index = 0;
+  next = ofInt binary64 (pos (s .arm / 2));
+  write = 0;
+}

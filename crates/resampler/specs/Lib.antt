@@ -1,0 +1,10 @@
+pub mod Dimensions
+pub mod Design
+pub mod Pass
+pub mod Outputs
+pub mod Ticks
+pub mod Scaled
+pub mod Ready
+pub mod Window
+pub mod Ranges
+pub mod Taps

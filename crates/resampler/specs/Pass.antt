@@ -1,0 +1,100 @@
+-- A value into the ring, and the outputs that it makes due. Definitions only.
+use Prim.Native.Nat.{ℕ, _+_, _-_, _*_, _%_}
+use mathlib.Core.Bool.{Bool, cond}
+use mathlib.Core.List.{List, [], _∷_}
+use lib.Dec.{eqb, ltb}
+use lib.IntN.{pos}
+use lib.ListN.{getD, set, take, drop}
+use lib.Ieee.{Float, nan, binary32, binary64, ofBits, ofInt, toUnsigned, add, sub, mul}
+use Rattle.laws.specs.Turns.{turns, until}
+use Rattle.laws.specs.Ring.{latest}
+use Rattle.numbers.specs.Numbers.{wholeOf, away, downward}
+use Rattle.complex.specs.Complex.{zeroPair}
+use Rattle.complex.specs.declared.Complex32.{Complex32}
+use Rattle.resampler.specs.declared.pass.Resampler.{Resampler}
+use Rattle.resampler.specs.declared.pass.Place.{Place}
+use Rattle.resampler.specs.declared.pass.Delivery.{Delivery}
+use Rattle.resampler.specs.declared.pass.Passed.{Passed}
+
+-- ---- where an output lies
+
+-- the whole part of x, and 32 times the rest to the nearest, a half away from zero; phase 32 becomes 0 at the next position
+unfoldable pub placeOf : Float → Place
+placeOf x =
+    let position = toUnsigned 64 (wholeOf downward binary64 x) in
+    let phase = toUnsigned 64 (wholeOf away binary64 (mul binary64 (sub binary64 x (ofInt binary64 (pos position))) (ofBits binary64 0x4040_0000_0000_0000))) in
+    cond (eqb phase 32) (record { position = position + 1; phase = 0 }) (record { position = position; phase = phase })
+
+-- an output there needs a value that is not yet in
+abbrev pub waits : Resampler → Place → Bool
+waits r p = ltb (r .index) (p .position + (r .arm - r .half))
+
+-- ---- an output: the arm of the phase over the last c values, the oldest first
+
+abbrev pub windowOf : Resampler → List Float → List Float
+windowOf r plane = latest nan (r .arm + 16) plane (r .write) (r .arm)
+
+abbrev pub armOf : ℕ → List Float → ℕ → List Float
+armOf c table phase = take c (drop (phase * c) table)
+
+abbrev pub sumTurn : List Float → List Float → List Float → ℕ → Complex32 → Complex32
+sumTurn taps xs ys i s = record {
+  real = add binary32 (s .real) (mul binary32 (getD xs i nan) (getD taps i nan));
+  imaginary = add binary32 (s .imaginary) (mul binary32 (getD ys i nan) (getD taps i nan));
+}
+
+unfoldable pub sumOf : ℕ → List Float → List Float → List Float → Complex32
+sumOf c taps xs ys = turns (sumTurn taps xs ys) c zeroPair
+
+abbrev pub filteredOf : Resampler → List Float → List Float → List Float → ℕ → Complex32
+filteredOf r table real imaginary phase = sumOf (r .arm) (armOf (r .arm) table phase) (windowOf r real) (windowOf r imaginary)
+
+-- ---- the pass: outputs until one needs a value that is not yet in, at most two
+
+abbrev pub startOf : Float → Delivery
+startOf x = record { count = 0; first = zeroPair; second = zeroPair; next = x }
+
+unfoldable pub emittedOf : Delivery → Float → Complex32 → Delivery
+emittedOf d step v =
+    cond (eqb (d .count) 0)
+    (record { count = d .count + 1; first = v; second = d .second; next = add binary64 (d .next) step })
+    (record { count = d .count + 1; first = d .first; second = v; next = add binary64 (d .next) step })
+
+abbrev pub isDone : Resampler → Delivery → Bool
+isDone r d = waits r (placeOf (d .next))
+
+abbrev pub passTurn : Resampler → List Float → List Float → List Float → Delivery → Delivery
+passTurn r table real imaginary d = emittedOf d (r .step) (filteredOf r table real imaginary (placeOf (d .next) .phase))
+
+unfoldable pub deliveredOf : Resampler → List Float → List Float → List Float → Delivery
+deliveredOf r table real imaginary = until (isDone r) (passTurn r table real imaginary) 2 (startOf (r .next))
+
+-- ---- a value in
+
+abbrev pub pushedOf : Resampler → Resampler
+pushedOf r = record { arm = r .arm; half = r .half; step = r .step; index = r .index + 1; next = r .next; write = (r .write + 1) % (r .arm + 16) }
+
+abbrev pub passedOf : Resampler → Delivery → Passed
+passedOf r d = record {
+  resampler = record { arm = r .arm; half = r .half; step = r .step; index = r .index; next = d .next; write = r .write };
+  count = d .count;
+  first = d .first;
+  second = d .second;
+}
+
+-- the answer, and both planes of the ring
+pub record Sampled : Type 0 where
+  pub passed : Passed
+  pub real : List Float
+  pub imaginary : List Float
+
+unfoldable pub resampledOf : Resampler → Complex32 → List Float → List Float → List Float → Sampled
+resampledOf r v table real imaginary =
+    let xs = set real (r .write) (v .real) in
+    let ys = set imaginary (r .write) (v .imaginary) in
+    let q = pushedOf r in
+    record { passed = passedOf q (deliveredOf q table xs ys); real = xs; imaginary = ys }
+
+-- the outputs as a list
+abbrev pub valuesOf : Passed → List Complex32
+valuesOf p = take (p .count) (p .first ∷ p .second ∷ [])

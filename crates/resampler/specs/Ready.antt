@@ -1,0 +1,379 @@
+-- What a state has to be for a value to go in (document 01's clauses on the resampler), and what the pass makes of it: at most two outputs, no third one due, nothing pending after, and the next
+-- output within 0 to 600 past the values that came in. Assumes nothing.
+use mathlib.Core.Path.{_≡_, refl, sym, ap, _∙_, subst}
+use mathlib.Core.Logic.{⊎-elim}
+use mathlib.Core.Bool.{Bool, true, false, cond, true≢false}
+use mathlib.Core.List.{List}
+use Prim.Native.Nat.{ℕ, zero, suc, _+_, _-_, _*_, _/_, _^_, _≤_, _<_}
+use native.Mathlib.Nat.{le-trans, mul-one, mul-right-comm, mul-le-mul-right, le-of-mul-le-mul-right, zero-add, mod-lt}
+use native.Mathlib.Omega.{arith}
+use lib.Dec.{T, eqb}
+use lib.IntN.{pos}
+use lib.ListN.{set}
+use lib.Ieee.{Float, nan, inf, fin, binary64, ofInt, add, le, fits, round, up, down}
+use lib.Ieee.Exact.{HasValue}
+use lib.Ieee.Back.{round-whole}
+use lib.Ieee.Scale.{finite}
+use lib.Ieee.Positive.{den, den-pos}
+use borrow.Author.Tests.{lt-ltb, le-ltb, ltb-false}
+use Rattle.laws.specs.Turns.{until, until-stop, until-next}
+use Rattle.laws.specs.Places.{le-or}
+use Rattle.laws.specs.Ring.{lt-or-ge}
+use Rattle.complex.specs.Complex.{zeroPair}
+use Rattle.complex.specs.declared.Complex32.{Complex32}
+use Rattle.laws.specs.FloatOrder.{plus, minus, le→, →le}
+use Rattle.laws.specs.FloatSums.{In, in-finite}
+use Rattle.laws.specs.FloatFractions.{AtMost}
+use Rattle.resampler.specs.declared.pass.Resampler.{Resampler}
+use Rattle.resampler.specs.declared.pass.Place.{Place}
+use Rattle.resampler.specs.declared.pass.Delivery.{Delivery}
+use Rattle.resampler.specs.declared.pass.Passed.{Passed}
+use Rattle.resampler.specs.Pass.{placeOf, waits, filteredOf, startOf, emittedOf, isDone, passTurn, deliveredOf, pushedOf, passedOf, Sampled, resampledOf}
+use Rattle.resampler.specs.Outputs.{position, f0, half, twenty, far, Sound, two-on, at-most-two, sound-next, within-600, no-minus}
+use Rattle.resampler.specs.Ticks.{placed-is}
+
+-- the last of the values that an output needs lies this far past its position
+abbrev pub back : Resampler → ℕ
+back r = r .arm - r .half
+
+pub record Ready (r : Resampler) : Type 0 where
+  pub arm-low : 14 ≤ r .arm
+  pub arm-high : r .arm ≤ 576
+  pub half-is : r .half ≡ r .arm / 2
+  pub write-in : r .write < r .arm + 16
+  pub index-in : r .index ≤ 2 ^ 52
+  pub step-in : In half twenty (r .step)
+  pub next-in : In f0 (ofInt binary64 (pos (r .index + 600))) (r .next)
+  -- nothing is pending
+  pub idle : r .index < placeOf (r .next) .position + back r
+
+-- what places and indices need of it
+pub record Dimensioned (r : Resampler) : Type 0 where
+  pub arm-some : 1 ≤ r .arm
+  pub arm-high : r .arm ≤ 576
+  pub half-in : r .half ≤ r .arm
+  pub write-in : r .write < r .arm + 16
+
+-- a place that a next output can have
+pub record Near (p : Place) : Type 0 where
+  pub phase-in : p .phase < 32
+  pub position-in : p .position ≤ 2 ^ 53 + 1
+
+-- what a value in keeps
+pub record Kept (r : Resampler) (p : Passed) : Type 0 where
+  pub ready : Ready (p .resampler)
+  pub few : p .count ≤ 2
+  pub one-more : p .resampler .index ≡ r .index + 1
+  pub same-arm : p .resampler .arm ≡ r .arm
+
+-- ---- x is at most the whole number n
+int-value : (n : ℕ) → n ≤ 2 ^ 53 → HasValue (ofInt binary64 (pos n)) false n 1
+unfolding ofInt
+int-value n h = round-whole binary64 false n h
+
+cancel-le : (P N D E M n : ℕ) → 0 < E → M * 1 ≡ n * E → P * E + 0 * D ≤ M * D + N * E → P * 1 ≤ n * D + N * 1
+cancel-le P N D E M n h v l =
+    let m : M * D ≡ n * D * E = ap (λ (k : ℕ). k * D) (sym (mul-one M) ∙ v) ∙ mul-right-comm n E D in
+    let g : P * E ≤ (n * D + N) * E = omega arith in
+    let k : P ≤ n * D + N = le-of-mul-le-mul-right g h in
+    omega arith
+
+cancel-ge : (P N D E M n : ℕ) → M * 1 ≡ n * E → P * 1 ≤ n * D + N * 1 → P * E + 0 * D ≤ M * D + N * E
+cancel-ge P N D E M n v l =
+    let m : M * D ≡ n * D * E = ap (λ (k : ℕ). k * D) (sym (mul-one M) ∙ v) ∙ mul-right-comm n E D in
+    let g : P * E ≤ (n * D + N) * E = mul-le-mul-right E (let k : P ≤ n * D + N = omega arith in k) in
+    omega arith
+
+below-whole : (x y : Float) (n : ℕ) → T (finite x) → HasValue y false n 1 → T (le x y) → AtMost x n 1
+below-whole x nan n F v l = absurd v
+below-whole x (inf s) n F v l = absurd v
+below-whole x (fin true m e) n F v l = absurd (true≢false (v .0))
+below-whole x (fin false m e) n F v l = cancel-le (plus x) (minus x) (den x) (down e) (m * up e) n (den-pos (fin false m e)) (v .1) (le→ x (fin false m e) F tt l)
+
+whole-above : (x y : Float) (n : ℕ) → T (finite x) → HasValue y false n 1 → AtMost x n 1 → T (le x y)
+whole-above x nan n F v l = absurd v
+whole-above x (inf s) n F v l = absurd v
+whole-above x (fin true m e) n F v l = absurd (true≢false (v .0))
+whole-above x (fin false m e) n F v l = →le x (fin false m e) F tt (cancel-ge (plus x) (minus x) (den x) (down e) (m * up e) n (v .1) l)
+
+-- ---- whole numbers as floats
+value-finite : (y : Float) (n : ℕ) → HasValue y false n 1 → T (finite y)
+value-finite nan n v = absurd v
+value-finite (inf s) n v = absurd v
+value-finite (fin s m e) n v = tt
+
+whole-most : (y : Float) (n k : ℕ) → HasValue y false n 1 → n ≤ k → AtMost y k 1
+whole-most nan n k v l = absurd v
+whole-most (inf s) n k v l = absurd v
+whole-most (fin true m e) n k v l = absurd (true≢false (v .0))
+whole-most (fin false m e) n k v l = let h = mul-le-mul-right (down e) l in let w = v .1 in omega arith
+
+pub whole-le : (n k : ℕ) → n ≤ k → k ≤ 2 ^ 53 → T (le (ofInt binary64 (pos n)) (ofInt binary64 (pos k)))
+whole-le n k l h =
+    let v = int-value n (le-trans l h) in
+    whole-above (ofInt binary64 (pos n)) (ofInt binary64 (pos k)) k (value-finite (ofInt binary64 (pos n)) n v) (int-value k h) (whole-most (ofInt binary64 (pos n)) n k v l)
+
+pub whole-from-zero : (n : ℕ) → n ≤ 2 ^ 53 → T (le f0 (ofInt binary64 (pos n)))
+unfolding ofInt round
+whole-from-zero n h = whole-le 0 n (omega arith) h
+
+most-more : (x : Float) (a b : ℕ) → a ≤ b → AtMost x a 1 → AtMost x b 1
+most-more x a b l h = let k : a * den x ≤ b * den x = mul-le-mul-right (den x) l in omega arith
+
+-- ---- a loop that has come to its end is not changed by more turns
+until-enough : {A : Type 0} (stop : A → Bool) (f : A → A) (n m : ℕ) (a : A) → stop (until stop f n a) ≡ true → until stop f (n + m) a ≡ until stop f n a
+unfolding until
+until-enough stop f zero m a h = ap (λ (k : ℕ). until stop f k a) (zero-add m) ∙ until-stop stop f m a h
+until-enough stop f (suc n) m a h = ap (λ (k : ℕ). until stop f k a) (let e : suc n + m ≡ suc (n + m) = omega arith in e) ∙ go (stop a) (until-enough stop f n m (f a)) h
+  where
+    go : (b : Bool) → (stop (until stop f n (f a)) ≡ true → until stop f (n + m) (f a) ≡ until stop f n (f a)) → stop (cond b a (until stop f n (f a))) ≡ true → cond b a (until stop f (n + m) (f a)) ≡ cond b a (until stop f n (f a))
+    go true k h = refl
+    go false k h = k h
+
+-- ---- from a state that is ready
+module _ (r : Resampler) (k : Ready r) (F : T (fits binary64 (r .next))) where
+  limit : r .index + 600 ≤ 2 ^ 53
+  limit = let i = k .index-in in omega arith
+
+  next-finite : T (finite (r .next))
+  next-finite = in-finite f0 (ofInt binary64 (pos (r .index + 600))) (r .next) tt (value-finite (ofInt binary64 (pos (r .index + 600))) (r .index + 600) (int-value (r .index + 600) limit)) (k .next-in)
+
+  next-most : AtMost (r .next) (r .index + 600) 1
+  next-most = below-whole (r .next) (ofInt binary64 (pos (r .index + 600))) (r .index + 600) next-finite (int-value (r .index + 600) limit) (k .next-in .upper)
+
+  pub ready-sound : Sound (r .next) (r .step)
+  ready-sound = record {
+    range = record { lower = k .next-in .lower; upper = whole-above (r .next) far (2 ^ 53) next-finite (refl, refl) (most-more (r .next) (r .index + 600) (2 ^ 53) limit next-most) };
+    stored = F;
+    step = k .step-in;
+  }
+
+-- ---- the pass, once a value is in
+
+-- n steps on from x
+unfoldable pub on : ℕ → Float → Float → Float
+on zero x s = x
+on (suc n) x s = add binary64 (on n x s) s
+
+-- before the pass: the value that came in is the last that the next output can wait for
+pub record Passing (q : Resampler) : Type 0 where
+  pub far-back : 0 < back q
+  pub total : q .index ≤ 2 ^ 52
+  pub sound : Sound (q .next) (q .step)
+  pub due-latest : q .index ≤ position (q .next) + back q
+  pub ahead : AtMost (q .next) (q .index + 600) 1
+
+-- after n outputs of it
+pub record Going (q : Resampler) (n : ℕ) (y : Float) : Type 0 where
+  pub few : n ≤ 2
+  pub steps : y ≡ on n (q .next) (q .step)
+  pub sound : Sound y (q .step)
+  pub ahead : AtMost y (q .index + 600) 1
+
+module _ (q : Resampler) (p : Passing q) where
+  pub going-start : Going q 0 (q .next)
+  unfolding on
+  going-start = record { few = omega arith; steps = refl; sound = p .sound; ahead = p .ahead }
+
+  third : q .index < position (two-on (q .next) (q .step)) + back q
+  third =
+      let w = p .sound in
+      at-most-two (q .next) (q .step) w (back q) (q .index) (no-minus (q .next) (in-finite f0 far (q .next) tt tt (w .range)) (w .range .lower)) (p .far-back) (p .total) (p .due-latest)
+
+  -- an output that is due is not the third
+  pub due-few : (n : ℕ) (y : Float) → Going q n y → position y + back q ≤ q .index → n < 2
+  unfolding on
+  due-few n y g due =
+      ⊎-elim (λ l. l)
+      (λ e.
+      let m : y ≡ two-on (q .next) (q .step) = g .steps ∙ ap (λ (z : ℕ). on z (q .next) (q .step)) e in
+      let d : position (two-on (q .next) (q .step)) + back q ≤ q .index = subst (λ (z : Float). position z + back q ≤ q .index) m due in
+      let t = third in
+      absurd (omega arith))
+      (le-or n 2 (g .few))
+
+  pub going-on : (n : ℕ) (y : Float) → Going q n y → n < 2 → position y + back q ≤ q .index → Going q (n + 1) (add binary64 y (q .step))
+  unfolding on
+  going-on n y g l due = record {
+    few = omega arith;
+    steps = ap (λ (z : Float). add binary64 z (q .step)) (g .steps) ∙ ap (λ (z : ℕ). on z (q .next) (q .step)) (let e : suc n ≡ n + 1 = omega arith in e);
+    sound = sound-next y (q .step) (g .sound) (back q) (q .index) (p .total) due;
+    ahead = within-600 y (q .step) (g .sound) (back q) (q .index) (p .total) due;
+  }
+
+-- what a pass leaves
+pub record Outcome (q : Resampler) (d : Delivery) : Type 0 where
+  pub going : Going q (d .count) (d .next)
+  -- no output is due any more
+  pub idle : q .index < placeOf (d .next) .position + back q
+
+place-position : (q : Resampler) (n : ℕ) (y : Float) → Going q n y → placeOf y .position ≡ position y
+place-position q n y g = ap (λ (z : Place). z .position) (placed-is y (g .sound .range) (g .sound .stored))
+
+count-emitted : (d : Delivery) (s : Float) (v : Complex32) → emittedOf d s v .count ≡ d .count + 1
+unfolding emittedOf
+count-emitted d s v = go (eqb (d .count) 0)
+  where
+    go : (b : Bool) → cond {A = Delivery} b (record { count = d .count + 1; first = v; second = d .second; next = add binary64 (d .next) s }) (record { count = d .count + 1; first = d .first; second = v; next = add binary64 (d .next) s }) .count ≡ d .count + 1
+    go true = refl
+    go false = refl
+
+next-emitted : (d : Delivery) (s : Float) (v : Complex32) → emittedOf d s v .next ≡ add binary64 (d .next) s
+unfolding emittedOf
+next-emitted d s v = go (eqb (d .count) 0)
+  where
+    go : (b : Bool) → cond {A = Delivery} b (record { count = d .count + 1; first = v; second = d .second; next = add binary64 (d .next) s }) (record { count = d .count + 1; first = d .first; second = v; next = add binary64 (d .next) s }) .next ≡ add binary64 (d .next) s
+    go true = refl
+    go false = refl
+
+module _ (q : Resampler) (p : Passing q) (table real imaginary : List Float) where
+  abbrev pub turned : Delivery → Delivery
+  turned = passTurn q table real imaginary
+
+  pub going-turned : (d : Delivery) → Going q (d .count) (d .next) → placeOf (d .next) .position + back q ≤ q .index → Going q (turned d .count) (turned d .next)
+  going-turned d g due =
+      let e : position (d .next) + back q ≤ q .index = subst (λ (n : ℕ). n + back q ≤ q .index) (place-position q (d .count) (d .next) g) due in
+      let v = filteredOf q table real imaginary (placeOf (d .next) .phase) in
+      subst (λ (n : ℕ). Going q n (turned d .next)) (sym (count-emitted d (q .step) v))
+      (subst (λ (y : Float). Going q (d .count + 1) y) (sym (next-emitted d (q .step) v)) (going-on q p (d .count) (d .next) g (due-few q p (d .count) (d .next) g e) e))
+
+  ends : (n : ℕ) (d : Delivery) → n + d .count ≡ 2 → Going q (d .count) (d .next) → Outcome q (until (isDone q) turned n d)
+  unfolding until
+  ends zero d e g =
+      ⊎-elim
+      (λ l. record { going = g; idle = l })
+      (λ l. let k = due-few q p (d .count) (d .next) g (subst (λ (n : ℕ). n + back q ≤ q .index) (place-position q (d .count) (d .next) g) l) in absurd (omega arith))
+      (lt-or-ge (q .index) (placeOf (d .next) .position + back q))
+  ends (suc n) d e g =
+      ⊎-elim
+      (λ l. subst (λ (b : Bool). Outcome q (cond b d (until (isDone q) turned n (turned d)))) (sym (lt-ltb (q .index) (placeOf (d .next) .position + back q) l)) (record { going = g; idle = l }))
+      (λ l.
+      let c = count-emitted d (q .step) (filteredOf q table real imaginary (placeOf (d .next) .phase)) in
+      subst (λ (b : Bool). Outcome q (cond b d (until (isDone q) turned n (turned d)))) (sym (le-ltb (q .index) (placeOf (d .next) .position + back q) l)) (ends n (turned d) (next-count (turned d .count) (d .count) c e) (going-turned d g l)))
+      (lt-or-ge (q .index) (placeOf (d .next) .position + back q))
+    where
+      next-count : (a b : ℕ) → a ≡ b + 1 → suc n + b ≡ 2 → n + a ≡ 2
+      next-count a b h k = omega arith
+
+  pub outcome : Outcome q (deliveredOf q table real imaginary)
+  unfolding deliveredOf
+  outcome = ends 2 (startOf (q .next)) refl (going-start q p)
+
+  -- however long the loop is let run, no third output comes
+  pub no-third : (n : ℕ) → until (isDone q) (passTurn q table real imaginary) (2 + n) (startOf (q .next)) ≡ deliveredOf q table real imaginary
+  unfolding deliveredOf
+  no-third n = until-enough (isDone q) (passTurn q table real imaginary) 2 n (startOf (q .next)) (lt-ltb (q .index) (placeOf (deliveredOf q table real imaginary .next) .position + back q) (outcome .idle))
+
+-- ---- a value into a state that is ready
+module _ (r : Resampler) (k : Ready r) (F : T (fits binary64 (r .next))) (room : r .index < 2 ^ 52) where
+  half-less : r .half < r .arm
+  half-less = let a = k .arm-low in let b = k .half-is in omega arith
+
+  pub ready-passing : Passing (pushedOf r)
+  ready-passing =
+      let w = ready-sound r k F in
+      let e : placeOf (r .next) .position ≡ position (r .next) = ap (λ (z : Place). z .position) (placed-is (r .next) (w .range) F) in
+      let i = k .idle in
+      record {
+        far-back = let l = half-less in omega arith;
+        total = omega arith;
+        sound = w;
+        due-latest = subst (λ (n : ℕ). r .index + 1 ≤ n + back r) e (omega arith);
+        ahead = most-more (r .next) (r .index + 600) (r .index + 1 + 600) (omega arith) (next-most r k F);
+      }
+
+  module _ (table real imaginary : List Float) where
+    -- THE THEOREM: at most two outputs, and a state that is ready again
+    pub at-most-two-outputs : deliveredOf (pushedOf r) table real imaginary .count ≤ 2
+    at-most-two-outputs = outcome (pushedOf r) ready-passing table real imaginary .going .few
+
+    pub next-stored : T (fits binary64 (deliveredOf (pushedOf r) table real imaginary .next))
+    next-stored = outcome (pushedOf r) ready-passing table real imaginary .going .sound .stored
+
+    pub ready-again : Ready (passedOf (pushedOf r) (deliveredOf (pushedOf r) table real imaginary) .resampler)
+    ready-again =
+        let o = outcome (pushedOf r) ready-passing table real imaginary in
+        let y = deliveredOf (pushedOf r) table real imaginary .next in
+        let g = o .going in
+        record {
+          arm-low = k .arm-low;
+          arm-high = k .arm-high;
+          half-is = k .half-is;
+          write-in = mod-lt (r .write + 1) (omega arith);
+          index-in = omega arith;
+          step-in = k .step-in;
+          next-in = record {
+            lower = g .sound .range .lower;
+            upper = whole-above y (ofInt binary64 (pos (r .index + 1 + 600))) (r .index + 1 + 600) (in-finite f0 far y tt tt (g .sound .range)) (int-value (r .index + 1 + 600) (omega arith)) (g .ahead);
+          };
+          idle = o .idle;
+        }
+
+-- ---- the code's loop, and where it stands: outputs are made, and what is left to do is what is left of the whole pass
+pub record Stands (q : Resampler) (table real imaginary : List Float) (d : Delivery) : Type 0 where
+  pub going : Going q (d .count) (d .next)
+  pub left : until (isDone q) (passTurn q table real imaginary) (2 - d .count) d ≡ deliveredOf q table real imaginary
+
+module _ (q : Resampler) (p : Passing q) (table real imaginary : List Float) where
+  pub stands-first : (z : Complex32) → z ≡ zeroPair → Stands q table real imaginary (record { count = 0; first = z; second = z; next = q .next })
+  unfolding deliveredOf
+  stands-first z e = record { going = going-start q p; left = rw e }
+
+  module _ (d : Delivery) (s : Stands q table real imaginary d) (l : Place) (pe : l ≡ placeOf (d .next)) (due : waits q l ≡ false) where
+    due-place : placeOf (d .next) .position + back q ≤ q .index
+    due-place = ltb-false (q .index) (placeOf (d .next) .position + back q) (ap (waits q) (sym pe) ∙ due)
+
+    pub stands-few : d .count < 2
+    stands-few = due-few q p (d .count) (d .next) (s .going) (subst (λ (n : ℕ). n + back q ≤ q .index) (place-position q (d .count) (d .next) (s .going)) due-place)
+
+    module _ (v : Complex32) (e : Delivery) (ve : v ≡ filteredOf q table real imaginary (l .phase)) (ee : e ≡ emittedOf d (q .step) v) where
+      turn-is : e ≡ passTurn q table real imaginary d
+      turn-is = ee ∙ ap (emittedOf d (q .step)) (ve ∙ ap (λ (k : Place). filteredOf q table real imaginary (k .phase)) pe)
+
+      pub one-output : e .count ≡ d .count + 1
+      one-output = ap (λ (t : Delivery). t .count) ee ∙ count-emitted d (q .step) v
+
+      pub stands-next : Stands q table real imaginary e
+      stands-next =
+          let f = stands-few in
+          let c = one-output in
+          record {
+            going = subst (λ (t : Delivery). Going q (t .count) (t .next)) (sym turn-is) (going-turned q p table real imaginary d (s .going) due-place);
+            left =
+                ap (λ (n : ℕ). until (isDone q) (passTurn q table real imaginary) n e) (let g : 2 - e .count ≡ 2 - d .count - 1 = omega arith in g)
+                ∙ until-next (isDone q) (passTurn q table real imaginary) (2 - d .count) d e (deliveredOf q table real imaginary) turn-is (omega arith) (ap (waits q) (sym pe) ∙ due) (s .left);
+          }
+
+  pub stands-last : (d : Delivery) → Stands q table real imaginary d → (l : Place) → l ≡ placeOf (d .next) → waits q l ≡ true → d ≡ deliveredOf q table real imaginary
+  stands-last d s l pe w = sym (until-stop (isDone q) (passTurn q table real imaginary) (2 - d .count) d (ap (waits q) (sym pe) ∙ w)) ∙ s .left
+
+-- ---- a value in, from what the two calls promise
+pub ready-dimensioned : (r : Resampler) → Ready r → Dimensioned r
+ready-dimensioned r k =
+    let a = k .arm-low in
+    let b = k .half-is in
+    record { arm-some = omega arith; arm-high = k .arm-high; half-in = omega arith; write-in = k .write-in }
+
+pub pushed-dimensioned : (r : Resampler) → Ready r → Dimensioned (pushedOf r)
+pushed-dimensioned r k =
+    let d = ready-dimensioned r k in
+    record { arm-some = d .arm-some; arm-high = d .arm-high; half-in = d .half-in; write-in = mod-lt (r .write + 1) (omega arith) }
+
+module _ (r : Resampler) (k : Ready r) (F : T (fits binary64 (r .next))) (room : r .index < 2 ^ 52) (q : Resampler) (qe : q ≡ pushedOf r) where
+  pub delivered-asks : (n : ℕ) → 32 * r .arm ≤ n → Dimensioned q × (Passing q × (32 * q .arm ≤ n))
+  delivered-asks n h =
+      subst (λ (s : Resampler). Dimensioned s × (Passing s × (32 * s .arm ≤ n))) (sym qe) (pushed-dimensioned r k, (ready-passing r k F room, h))
+
+  module _ (v : Complex32) (table real imaginary xs ys : List Float) (xe : xs ≡ set real (r .write) (v .real)) (ye : ys ≡ set imaginary (r .write) (v .imaginary))
+      (d : Delivery) (de : d ≡ deliveredOf q table xs ys) where
+    pub resampled-is : _≡_ {A = Sampled} (record { passed = passedOf q d; real = xs; imaginary = ys }) (resampledOf r v table real imaginary)
+    unfolding resampledOf
+    resampled-is =
+        (λ i. record { passed = passedOf q (de i); real = xs; imaginary = ys })
+        ∙ (λ i. record { passed = passedOf (qe i) (deliveredOf (qe i) table (xe i) (ye i)); real = xe i; imaginary = ye i })
+
+    pub resampled-kept : Kept r (passedOf q d)
+    resampled-kept =
+        subst (λ (e : Delivery). Kept r (passedOf q e)) (sym de)
+        (subst (λ (s : Resampler). Kept r (passedOf s (deliveredOf s table xs ys))) (sym qe)
+        (record { ready = ready-again r k F room table xs ys; few = at-most-two-outputs r k F room table xs ys; one-more = refl; same-arm = refl }))
