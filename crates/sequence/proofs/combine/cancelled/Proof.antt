@@ -1,0 +1,49 @@
+-- `sequence::combine::cancelled` meets its contract. Assumes nothing.
+use borrow.Author.Needs.{needs}
+use Rattle.sequence.proofs.combine.cancelled.Statement.{statement}
+use Rattle.sequence.proofs.combine.cancelled.Tie as tie
+
+symbol-requires : tie.Need-symbol-requires
+symbol-requires c κs = search needs
+
+multiplied-requires : tie.Need-multiplied-requires
+multiplied-requires c κs = search needs
+
+subtracted-requires : tie.Need-subtracted-requires
+subtracted-requires c κs = search needs
+
+symbol-requires-2 : tie.Need-symbol-requires-2
+symbol-requires-2 c κs = search needs
+
+multiplied-requires-2 : tie.Need-multiplied-requires-2
+multiplied-requires-2 c κs = search needs
+
+subtracted-requires-2 : tie.Need-subtracted-requires-2
+subtracted-requires-2 c κs = search needs
+
+symbol-requires-3 : tie.Need-symbol-requires-3
+symbol-requires-3 c κs = search needs
+
+multiplied-requires-3 : tie.Need-multiplied-requires-3
+multiplied-requires-3 c κs = search needs
+
+subtracted-requires-3 : tie.Need-subtracted-requires-3
+subtracted-requires-3 c κs = search needs
+
+returns : tie.Need-returns
+returns c = rw (c .subtracted3 .ensures, c .before .multiplied3 .ensures, c .before .before .symbol3 .ensures, c .before .before .before .subtracted2 .ensures, c .before .before .before .before .multiplied2 .ensures, c .before .before .before .before .before .symbol2 .ensures, c .before .before .before .before .before .before .subtracted .ensures, c .before .before .before .before .before .before .before .multiplied .ensures, c .before .before .before .before .before .before .before .before .symbol .ensures)
+
+pub cancelled-spec : {M : Type 1} → statement M
+cancelled-spec =
+    tie.close
+    (tie.spec
+    symbol-requires
+    multiplied-requires
+    subtracted-requires
+    symbol-requires-2
+    multiplied-requires-2
+    subtracted-requires-2
+    symbol-requires-3
+    multiplied-requires-3
+    subtracted-requires-3
+    returns)

@@ -1,0 +1,35 @@
+-- `sequence::soft::recorded` meets its contract. Assumes nothing.
+use Rattle.sequence.specs.Observed.{recordedOf}
+use borrow.Author.Needs.{needs}
+use Rattle.sequence.proofs.soft.recorded.Statement.{statement}
+use Rattle.sequence.proofs.soft.recorded.Tie as tie
+
+multiplied-conjugate-requires : tie.Need-multiplied-conjugate-requires
+multiplied-conjugate-requires c κs = search needs
+
+turned-requires : tie.Need-turned-requires
+turned-requires c κs = search needs
+
+scale-requires : tie.Need-scale-requires
+scale-requires c κs = search needs
+
+abs32-requires : tie.Need-abs32-requires
+abs32-requires c κs = search needs
+
+abs32-requires-2 : tie.Need-abs32-requires-2
+abs32-requires-2 c κs = search needs
+
+returns : tie.Need-returns
+unfolding recordedOf
+returns c = rw (c .before .before .abs322 .ensures, c .before .before .before .abs32 .ensures, c .before .before .before .before .scale .ensures, c .before .before .before .before .before .turned .ensures, c .before .before .before .before .before .before .multiplied-conjugate .ensures)
+
+pub recorded-spec : {M : Type 1} → statement M
+recorded-spec =
+    tie.close
+    (tie.spec
+    multiplied-conjugate-requires
+    turned-requires
+    scale-requires
+    abs32-requires
+    abs32-requires-2
+    returns)

@@ -1,0 +1,71 @@
+-- What the proofs of the detector's functions apply, over plain variables. Assumes nothing.
+use mathlib.Core.Path.{_≡_, refl, ap, ap₂, sym, _∙_}
+use Prim.Native.Nat.{ℕ, zero, suc, _+_, _-_, _/_, _%_, _≤_, _<_}
+use native.Mathlib.Omega.{arith}
+use mathlib.Core.Bool.{Bool, true, false, _&&_}
+use mathlib.Core.List.{List}
+use lib.Dec.{eqb, ltb, lt→ltb, ltb→lt, not-T}
+use lib.Ieee.Bits.{is-true, is-false}
+use lib.Ieee.{Float}
+use Rattle.complex.specs.declared.Complex32.{Complex32}
+use Rattle.complex.specs.Complex.{conjugateProductOf, powerOf, bothFinite}
+use Rattle.signal.specs.declared.Observation.the-variants.{Absent, Present}
+use Rattle.tracker.specs.declared.taps.Taps.{Taps}
+use Rattle.sequence.specs.declared.combine.Seen.{Seen}
+use Rattle.sequence.specs.declared.soft.Soft.{Soft}
+use Rattle.sequence.specs.declared.soft.Soft.the-variants.{Recorded}
+use Rattle.sequence.specs.declared.walk.Previous.{Previous}
+use Rattle.sequence.specs.declared.walk.Previous.the-variants.{Symbol}
+use Rattle.sequence.specs.declared.walk.Answer.{Answer}
+use Rattle.sequence.specs.declared.walk.Answer.the-variants.{Silent, Dibit}
+use Rattle.sequence.specs.declared.walk.Walked.{Walked}
+use Rattle.sequence.specs.Observed.{cancelledOf, weightedOf, isUsable, dividedOf, seenWith, seenOf, agreedOf}
+use Rattle.sequence.specs.Walk.{stateBefore, dibitOf, answerWith, decidedOf, walkedOf}
+
+-- ---- the observation
+module _ (input : Complex32) (reliable : Bool) (t : Taps) (prior : ℕ) (power : Float) (rest v : Complex32) (a b : Bool)
+    (p : power ≡ powerOf (t .main)) (r : rest ≡ cancelledOf input t prior) (w : v ≡ conjugateProductOf rest (t .main)) (u : a ≡ isUsable reliable power) (f : b ≡ bothFinite v) where
+  seen-is : seenWith (a && b) v power ≡ seenOf input reliable t prior
+  unfolding seenOf
+  seen-is =
+      ap (λ (z : Bool). seenWith z v power) (ap₂ _&&_ u f)
+      ∙ ap (λ (z : Complex32). seenWith (isUsable reliable power && bothFinite z) z power) (w ∙ ap (λ (z : Complex32). conjugateProductOf z (t .main)) r)
+      ∙ ap (λ (z : Float). seenWith (isUsable reliable z && bothFinite (weightedOf input t prior)) (weightedOf input t prior) z) p
+
+  pub observed-yes : (z : Complex32) → (a && b) ≡ true → z ≡ dividedOf v power → _≡_ {A = Seen} (record { combined = Present v; equalized = Present z }) (seenOf input reliable t prior)
+  observed-yes z y d = go (a && b) y ∙ seen-is
+    where
+      go : (c : Bool) → c ≡ true → _≡_ {A = Seen} (record { combined = Present v; equalized = Present z }) (seenWith c v power)
+      go c e = unfold seenWith in rw (e, d)
+
+  pub observed-no : (a && b) ≡ false → _≡_ {A = Seen} (record { combined = Absent; equalized = Absent }) (seenOf input reliable t prior)
+  observed-no n = go (a && b) n ∙ seen-is
+    where
+      go : (c : Bool) → c ≡ false → _≡_ {A = Seen} (record { combined = Absent; equalized = Absent }) (seenWith c v power)
+      go c e = unfold seenWith in rw e
+
+-- ---- the answer
+pub dibit-three : (q : ℕ) → q < 4 → (q ≡ 0 → ⊥) → (q ≡ 1 → ⊥) → (q ≡ 2 → ⊥) → 2 ≡ dibitOf q
+dibit-three zero h a b c = absurd (a refl)
+dibit-three (suc zero) h a b c = absurd (b refl)
+dibit-three (suc (suc zero)) h a b c = absurd (c refl)
+dibit-three (suc (suc (suc zero))) h a b c = refl
+dibit-three (suc (suc (suc (suc q)))) h a b c = absurd (omega arith)
+
+pub answer-is : (dibit : ℕ) (soft : Soft) (high low : Bool) (a b : Float) (x y : ℕ) → soft ≡ Recorded high low a b
+    → x ≡ agreedOf high (eqb (dibit / 2 % 2) 1) a → y ≡ agreedOf low (eqb (dibit % 2) 1) b → Dibit dibit x y ≡ answerWith dibit soft
+answer-is dibit soft high low a b x y e f g = rw (e, f, g)
+
+pub decided-is : (current : ℕ) (previous : Previous) (soft : Soft) (last dibit : ℕ) (r : Answer) → previous ≡ Symbol last
+    → dibit ≡ dibitOf ((current + 4 - last) % 4) → r ≡ answerWith dibit soft → r ≡ decidedOf current previous soft
+decided-is current previous soft last dibit r e f g = g ∙ ap (λ (z : ℕ). answerWith z soft) f ∙ sym (ap (λ (z : Previous). decidedOf current z soft) e)
+
+module _ (parents : List ℕ) (newest filled best : ℕ) (previous : Previous) (oldest : Soft) where
+  pub walk-silent : filled < 31 → _≡_ {A = Walked} (record { previous = previous; answer = Silent }) (walkedOf parents newest filled best previous oldest)
+  unfolding walkedOf
+  walk-silent h = rw (is-true (ltb filled 31) (lt→ltb filled 31 h))
+
+  pub walk-full : (state : ℕ) (r : Answer) → 31 ≤ filled → state ≡ stateBefore parents newest best → r ≡ decidedOf (state % 4) previous oldest
+      → _≡_ {A = Walked} (record { previous = Symbol (state % 4); answer = r }) (walkedOf parents newest filled best previous oldest)
+  unfolding walkedOf
+  walk-full state r h e f = rw (f, e, is-false (ltb filled 31) (not-T (ltb filled 31) (λ t. let l = ltb→lt filled 31 t in omega arith)))
