@@ -12,7 +12,7 @@ use lib.IntN.{ℤ, pos, negsuc, natAbs}
 use lib.ListN.{length, getD, length-append}
 use lib.Seq.{getD-append-add}
 use lib.Signed.{mag}
-use borrow.Author.Tests.{le-leb, lt-leb}
+use borrow.Author.Tests.{ne-eqb, le-leb, lt-leb}
 use Rattle.laws.specs.Places.{upto-is}
 use Rattle.laws.specs.Ring.{lt-or-ge}
 use Rattle.decimator.specs.declared.Counts.{Counts}
@@ -68,6 +68,18 @@ pub decimates : (d : ℕ) → 0 < d → (xs : List Counts) → answersOf (freshO
 unfolding demandedRow
 decimates d D xs = upto-is (demanded d xs) (length xs) Silent (answersOf (freshOf d) xs) (answers-length (freshOf d) xs) (decimates-at d D xs)
 
+-- the answer demanded, case by case
+abbrev pub wrappedSums : ℕ → List Counts → ℕ → Counts
+wrappedSums d xs n = record { real = wrapped (sumsAt d xs n .real); imaginary = wrapped (sumsAt d xs n .imaginary) }
+
+pub demanded-sum : (d : ℕ) (xs : List Counts) (n : ℕ) → (n + 1) % d ≡ 0 → demanded d xs n ≡ Sum (wrappedSums d xs n)
+unfolding demanded
+demanded-sum d xs n e = ap (λ (b : Bool). cond b (Sum (wrappedSums d xs n)) Silent) (ap (λ (r : ℕ). eqb r 0) e)
+
+pub demanded-silent : (d : ℕ) (xs : List Counts) (n : ℕ) → ((n + 1) % d ≡ 0 → ⊥) → demanded d xs n ≡ Silent
+unfolding demanded
+demanded-silent d xs n e = ap (λ (b : Bool). cond b (Sum (wrappedSums d xs n)) Silent) (ne-eqb ((n + 1) % d) 0 e)
+
 -- ---- where it is exact: no sum of samples within 2 ^ 44 leaves the 64 bits
 sum-within : (n B : ℕ) (f : ℕ → ℤ) → ((i : ℕ) → i < n → natAbs (f i) ≤ B) → natAbs (sumZ n f) ≤ n * B
 unfolding sumZ
@@ -105,10 +117,9 @@ pub record Within (c : Counts) : Type 0 where
 
 pub decimates-exactly : (d : ℕ) → 0 < d → d ≤ 78 → (xs : List Counts) (n : ℕ) → n < length xs → (n + 1) % d ≡ 0 → ((a : ℕ) → a < 3 * d - 2 → Within (ago xs n a))
     → getD (answersOf (freshOf d) xs) n Silent ≡ Sum (sumsAt d xs n)
-unfolding demanded
 decimates-exactly d D D78 xs n l e k =
     decimates-at d D xs n l
-    ∙ ap (λ (b : Bool). cond b (Sum (record { real = wrapped (sumsAt d xs n .real); imaginary = wrapped (sumsAt d xs n .imaginary) })) Silent) (ap (λ (r : ℕ). eqb r 0) e)
+    ∙ demanded-sum d xs n e
     ∙ (λ j. Sum (record { real = exact d D78 (λ a. ago xs n a .real) (λ a m. k a m .real-part) j; imaginary = exact d D78 (λ a. ago xs n a .imaginary) (λ a m. k a m .imaginary-part) j }))
 
 -- ---- forgetting: rows that agree on the latest 3d - 2 samples are answered alike there, whatever came before

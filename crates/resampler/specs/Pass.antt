@@ -1,11 +1,11 @@
 -- A value into the ring, and the outputs that it makes due. Definitions only.
-use Prim.Native.Nat.{ℕ, _+_, _-_, _*_, _%_}
-use mathlib.Core.Bool.{Bool, cond}
+use Prim.Native.Nat.{ℕ, _+_, _-_, _*_, _/_, _%_, _^_}
+use mathlib.Core.Bool.{Bool, false, cond, _&&_}
 use mathlib.Core.List.{List, [], _∷_}
-use lib.Dec.{eqb, ltb}
+use lib.Dec.{eqb, leb, ltb}
 use lib.IntN.{pos}
 use lib.ListN.{getD, set, take, drop}
-use lib.Ieee.{Float, nan, binary32, binary64, ofBits, ofInt, toUnsigned, add, sub, mul}
+use lib.Ieee.{Float, nan, binary32, binary64, ofBits, ofInt, toUnsigned, add, sub, mul, le}
 use Rattle.laws.specs.Turns.{turns, until}
 use Rattle.laws.specs.Ring.{latest}
 use Rattle.numbers.specs.Numbers.{wholeOf, away, downward}
@@ -98,3 +98,15 @@ resampledOf r v table real imaginary =
 -- the outputs as a list
 abbrev pub valuesOf : Passed → List Complex32
 valuesOf p = take (p .count) (p .first ∷ p .second ∷ [])
+
+-- ---- may this state be run: what document 01 says of the resampler, with the input index held to 2 ^ 52
+unfoldable pub sizesOk : Resampler → Bool
+sizesOk r = cond (ltb 576 (r .arm)) false (leb 14 (r .arm) && eqb (r .half) (r .arm / 2) && ltb (r .write) (r .arm + 16))
+
+unfoldable pub rangesOk : Resampler → Bool
+rangesOk r =
+    cond (ltb (2 ^ 52) (r .index)) false
+    (le (ofBits binary64 0x3fe0_0000_0000_0000) (r .step) && le (r .step) (ofBits binary64 0x4034_0000_0000_0000) && le (ofBits binary64 0) (r .next) && le (r .next) (ofInt binary64 (pos (r .index + 600))))
+
+unfoldable pub admittedOf : Resampler → Bool
+admittedOf r = cond (sizesOk r) (cond (rangesOk r) (waits r (placeOf (r .next))) false) false

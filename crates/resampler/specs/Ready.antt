@@ -2,20 +2,22 @@
 -- output within 0 to 600 past the values that came in. Assumes nothing.
 use mathlib.Core.Path.{_≡_, refl, sym, ap, _∙_, subst}
 use mathlib.Core.Logic.{⊎-elim}
-use mathlib.Core.Bool.{Bool, true, false, cond, true≢false}
+use mathlib.Core.Bool.{Bool, true, false, cond, _&&_, true≢false, false≢true}
 use mathlib.Core.List.{List}
 use Prim.Native.Nat.{ℕ, zero, suc, _+_, _-_, _*_, _/_, _^_, _≤_, _<_}
 use native.Mathlib.Nat.{le-trans, mul-one, mul-right-comm, mul-le-mul-right, le-of-mul-le-mul-right, zero-add, mod-lt}
 use native.Mathlib.Omega.{arith}
-use lib.Dec.{T, eqb}
+use lib.Dec.{T, eqb, leb, ltb, eqb→eq, leb→le, ltb→lt}
 use lib.IntN.{pos}
 use lib.ListN.{set}
-use lib.Ieee.{Float, nan, inf, fin, binary64, ofInt, add, le, fits, round, up, down}
+use lib.Ieee.{Float, nan, inf, fin, binary64, ofInt, add, le, fits, round, up, down, ofBits}
+use lib.Ieee.Bits.{is-true}
 use lib.Ieee.Exact.{HasValue}
+use lib.Ieee.Fits.{and-l, and-r}
 use lib.Ieee.Back.{round-whole}
 use lib.Ieee.Scale.{finite}
 use lib.Ieee.Positive.{den, den-pos}
-use borrow.Author.Tests.{lt-ltb, le-ltb, ltb-false}
+use borrow.Author.Tests.{lt-ltb, le-ltb, ltb-true, ltb-false, le-leb, eq-eqb}
 use Rattle.laws.specs.Turns.{until, until-stop, until-next}
 use Rattle.laws.specs.Places.{le-or}
 use Rattle.laws.specs.Ring.{lt-or-ge}
@@ -28,7 +30,7 @@ use Rattle.resampler.specs.declared.pass.Resampler.{Resampler}
 use Rattle.resampler.specs.declared.pass.Place.{Place}
 use Rattle.resampler.specs.declared.pass.Delivery.{Delivery}
 use Rattle.resampler.specs.declared.pass.Passed.{Passed}
-use Rattle.resampler.specs.Pass.{placeOf, waits, filteredOf, startOf, emittedOf, isDone, passTurn, deliveredOf, pushedOf, passedOf, Sampled, resampledOf}
+use Rattle.resampler.specs.Pass.{placeOf, waits, filteredOf, startOf, emittedOf, isDone, passTurn, deliveredOf, pushedOf, passedOf, Sampled, resampledOf, sizesOk, rangesOk, admittedOf}
 use Rattle.resampler.specs.Outputs.{position, f0, half, twenty, far, Sound, two-on, at-most-two, sound-next, within-600, no-minus}
 use Rattle.resampler.specs.Ticks.{placed-is}
 
@@ -130,23 +132,22 @@ until-enough stop f (suc n) m a h = ap (λ (k : ℕ). until stop f k a) (let e :
     go true k h = refl
     go false k h = k h
 
--- ---- from a state that is ready
-module _ (r : Resampler) (k : Ready r) (F : T (fits binary64 (r .next))) where
-  limit : r .index + 600 ≤ 2 ^ 53
-  limit = let i = k .index-in in omega arith
+-- ---- a next output within 600 of the values that came in
+module _ (index : ℕ) (few : index ≤ 2 ^ 52) (x : Float) (i : In f0 (ofInt binary64 (pos (index + 600))) x) where
+  limit : index + 600 ≤ 2 ^ 53
+  limit = omega arith
 
-  next-finite : T (finite (r .next))
-  next-finite = in-finite f0 (ofInt binary64 (pos (r .index + 600))) (r .next) tt (value-finite (ofInt binary64 (pos (r .index + 600))) (r .index + 600) (int-value (r .index + 600) limit)) (k .next-in)
+  near-finite : T (finite x)
+  near-finite = in-finite f0 (ofInt binary64 (pos (index + 600))) x tt (value-finite (ofInt binary64 (pos (index + 600))) (index + 600) (int-value (index + 600) limit)) i
 
-  next-most : AtMost (r .next) (r .index + 600) 1
-  next-most = below-whole (r .next) (ofInt binary64 (pos (r .index + 600))) (r .index + 600) next-finite (int-value (r .index + 600) limit) (k .next-in .upper)
+  near-most : AtMost x (index + 600) 1
+  near-most = below-whole x (ofInt binary64 (pos (index + 600))) (index + 600) near-finite (int-value (index + 600) limit) (i .upper)
 
-  pub ready-sound : Sound (r .next) (r .step)
-  ready-sound = record {
-    range = record { lower = k .next-in .lower; upper = whole-above (r .next) far (2 ^ 53) next-finite (refl, refl) (most-more (r .next) (r .index + 600) (2 ^ 53) limit next-most) };
-    stored = F;
-    step = k .step-in;
-  }
+  pub near-far : In f0 far x
+  near-far = record { lower = i .lower; upper = whole-above x far (2 ^ 53) near-finite (refl, refl) (most-more x (index + 600) (2 ^ 53) limit near-most) }
+
+ready-sound : (r : Resampler) → Ready r → T (fits binary64 (r .next)) → Sound (r .next) (r .step)
+ready-sound r k F = record { range = near-far (r .index) (k .index-in) (r .next) (k .next-in); stored = F; step = k .step-in }
 
 -- ---- the pass, once a value is in
 
@@ -210,7 +211,7 @@ pub record Outcome (q : Resampler) (d : Delivery) : Type 0 where
 place-position : (q : Resampler) (n : ℕ) (y : Float) → Going q n y → placeOf y .position ≡ position y
 place-position q n y g = ap (λ (z : Place). z .position) (placed-is y (g .sound .range) (g .sound .stored))
 
-count-emitted : (d : Delivery) (s : Float) (v : Complex32) → emittedOf d s v .count ≡ d .count + 1
+pub count-emitted : (d : Delivery) (s : Float) (v : Complex32) → emittedOf d s v .count ≡ d .count + 1
 unfolding emittedOf
 count-emitted d s v = go (eqb (d .count) 0)
   where
@@ -218,7 +219,7 @@ count-emitted d s v = go (eqb (d .count) 0)
     go true = refl
     go false = refl
 
-next-emitted : (d : Delivery) (s : Float) (v : Complex32) → emittedOf d s v .next ≡ add binary64 (d .next) s
+pub next-emitted : (d : Delivery) (s : Float) (v : Complex32) → emittedOf d s v .next ≡ add binary64 (d .next) s
 unfolding emittedOf
 next-emitted d s v = go (eqb (d .count) 0)
   where
@@ -279,7 +280,7 @@ module _ (r : Resampler) (k : Ready r) (F : T (fits binary64 (r .next))) (room :
         total = omega arith;
         sound = w;
         due-latest = subst (λ (n : ℕ). r .index + 1 ≤ n + back r) e (omega arith);
-        ahead = most-more (r .next) (r .index + 600) (r .index + 1 + 600) (omega arith) (next-most r k F);
+        ahead = most-more (r .next) (r .index + 600) (r .index + 1 + 600) (omega arith) (near-most (r .index) (k .index-in) (r .next) (k .next-in));
       }
 
   module _ (table real imaginary : List Float) where
@@ -377,3 +378,90 @@ module _ (r : Resampler) (k : Ready r) (F : T (fits binary64 (r .next))) (room :
         subst (λ (e : Delivery). Kept r (passedOf q e)) (sym de)
         (subst (λ (s : Resampler). Kept r (passedOf s (deliveredOf s table xs ys))) (sym qe)
         (record { ready = ready-again r k F room table xs ys; few = at-most-two-outputs r k F room table xs ys; one-more = refl; same-arm = refl }))
+
+-- ---- the test says whether a state is ready
+sizes-say : (r : Resampler) → sizesOk r ≡ true → (14 ≤ r .arm) × (r .arm ≤ 576) × (r .half ≡ r .arm / 2) × (r .write < r .arm + 16)
+unfolding sizesOk
+sizes-say r h = go (ltb 576 (r .arm)) refl h
+  where
+    go : (b : Bool) → ltb 576 (r .arm) ≡ b → cond b false (leb 14 (r .arm) && eqb (r .half) (r .arm / 2) && ltb (r .write) (r .arm + 16)) ≡ true
+        → (14 ≤ r .arm) × (r .arm ≤ 576) × (r .half ≡ r .arm / 2) × (r .write < r .arm + 16)
+    go true e h = absurd (false≢true h)
+    go false e h =
+        let t : T (leb 14 (r .arm) && eqb (r .half) (r .arm / 2) && ltb (r .write) (r .arm + 16)) = subst T (sym h) tt in
+        let u = and-l (leb 14 (r .arm) && eqb (r .half) (r .arm / 2)) (ltb (r .write) (r .arm + 16)) t in (
+          leb→le 14 (r .arm) (and-l (leb 14 (r .arm)) (eqb (r .half) (r .arm / 2)) u),
+          ltb-false 576 (r .arm) e,
+          eqb→eq (r .half) (r .arm / 2) (and-r (leb 14 (r .arm)) (eqb (r .half) (r .arm / 2)) u),
+          ltb→lt (r .write) (r .arm + 16) (and-r (leb 14 (r .arm) && eqb (r .half) (r .arm / 2)) (ltb (r .write) (r .arm + 16)) t),
+        )
+
+ranges-say : (r : Resampler) → rangesOk r ≡ true → (r .index ≤ 2 ^ 52) × In half twenty (r .step) × In f0 (ofInt binary64 (pos (r .index + 600))) (r .next)
+unfolding rangesOk ofBits
+ranges-say r h = go (ltb (2 ^ 52) (r .index)) refl h
+  where
+    go : (b : Bool) → ltb (2 ^ 52) (r .index) ≡ b → cond b false (le half (r .step) && le (r .step) twenty && le f0 (r .next) && le (r .next) (ofInt binary64 (pos (r .index + 600)))) ≡ true
+        → (r .index ≤ 2 ^ 52) × In half twenty (r .step) × In f0 (ofInt binary64 (pos (r .index + 600))) (r .next)
+    go true e h = absurd (false≢true h)
+    go false e h =
+        let a = le half (r .step) in
+        let b = le (r .step) twenty in
+        let c = le f0 (r .next) in
+        let d = le (r .next) (ofInt binary64 (pos (r .index + 600))) in
+        let t : T (a && b && c && d) = subst T (sym h) tt in
+        let u = and-l (a && b && c) d t in
+        let v = and-l (a && b) c u in
+        (ltb-false (2 ^ 52) (r .index) e, record { lower = and-l a b v; upper = and-r a b v }, record { lower = and-r (a && b) c u; upper = and-r (a && b && c) d t })
+
+both-true : (a b c : Bool) → cond a (cond b c false) false ≡ true → (a ≡ true) × (b ≡ true) × (c ≡ true)
+both-true true true c h = (refl, refl, h)
+both-true true false c h = absurd (false≢true h)
+both-true false b c h = absurd (false≢true h)
+
+pub admitted-ready : (r : Resampler) → admittedOf r ≡ true → Ready r
+unfolding admittedOf
+admitted-ready r h =
+    let t = both-true (sizesOk r) (rangesOk r) (waits r (placeOf (r .next))) h in
+    let s = sizes-say r (t .0) in
+    let g = ranges-say r (t .1) in
+    record {
+      arm-low = s .0;
+      arm-high = s .1;
+      half-is = s .2;
+      write-in = s .3;
+      index-in = g .0;
+      step-in = g .1;
+      next-in = g .2;
+      idle = ltb-true (r .index) (placeOf (r .next) .position + back r) (t .2);
+    }
+
+pub ready-admitted : (r : Resampler) → Ready r → admittedOf r ≡ true
+unfolding admittedOf sizesOk rangesOk ofBits
+ready-admitted r k =
+    let a = is-true (le half (r .step)) (k .step-in .lower) in
+    let b = is-true (le (r .step) twenty) (k .step-in .upper) in
+    let c = is-true (le f0 (r .next)) (k .next-in .lower) in
+    let d = is-true (le (r .next) (ofInt binary64 (pos (r .index + 600)))) (k .next-in .upper) in
+    rw (
+      le-ltb 576 (r .arm) (k .arm-high),
+      le-leb 14 (r .arm) (k .arm-low),
+      eq-eqb (r .half) (r .arm / 2) (k .half-is),
+      lt-ltb (r .write) (r .arm + 16) (k .write-in),
+      le-ltb (2 ^ 52) (r .index) (k .index-in),
+      a,
+      b,
+      c,
+      d,
+      lt-ltb (r .index) (placeOf (r .next) .position + back r) (k .idle),
+    )
+
+-- ---- what the test's calls ask
+pub sizes-dimensioned : (r : Resampler) (b : Bool) → b ≡ sizesOk r → b ≡ true → Dimensioned r
+sizes-dimensioned r b e t =
+    let s = sizes-say r (sym e ∙ t) in
+    let a = s .0 in
+    let h = s .2 in
+    record { arm-some = omega arith; arm-high = s .1; half-in = omega arith; write-in = s .3 }
+
+pub ranges-far : (r : Resampler) (b : Bool) → b ≡ rangesOk r → b ≡ true → In f0 far (r .next)
+ranges-far r b e t = let g = ranges-say r (sym e ∙ t) in near-far (r .index) (g .0) (r .next) (g .2)

@@ -6,7 +6,7 @@ ghost use lib.ListN.{length, set};
 ghost use Rattle.laws.specs.FloatSums.{In};
 ghost use Rattle.laws.specs.Ring.{start};
 ghost use Rattle.resampler.specs.Outputs.{f0, far};
-ghost use Rattle.resampler.specs.Pass.{placeOf, waits, filteredOf, emittedOf, deliveredOf, pushedOf, Sampled, resampledOf};
+ghost use Rattle.resampler.specs.Pass.{placeOf, waits, filteredOf, emittedOf, deliveredOf, pushedOf, Sampled, resampledOf, sizesOk, rangesOk, admittedOf};
 ghost use Rattle.resampler.specs.Window.{runOf};
 ghost use Rattle.resampler.specs.Ready.{Near, Dimensioned, Passing, Ready, Kept};
 use complex::Complex32;
@@ -189,6 +189,37 @@ fn delivered(r: Resampler, table: &[f32], reals: &[f32; 592], imaginaries: &[f32
     let mut e = d;
     e.next = next;
     e
+}
+
+fn has_sizes(r: Resampler) -> bool
+    ensures { λ b. ⌜ b ≡ sizesOk r ⌝ }
+{
+    if r.arm > 576 {
+        return false;
+    }
+    (r.arm >= 14) & (r.half == r.arm / 2) & (r.write < r.arm + 16)
+}
+
+fn has_ranges(r: Resampler) -> bool
+    ensures { λ b. ⌜ b ≡ rangesOk r ⌝ }
+{
+    if r.index > 4503599627370496 {
+        return false;
+    }
+    let end = std::num::nearest_u64_to_f64(r.index + 600);
+    (r.step >= 0.5) & (r.step <= 20.0) & (r.next >= 0.0) & (r.next <= end)
+}
+
+// Whether this state may be run, be it from a setup or handed in.
+pub fn is_admitted(r: Resampler) -> bool
+    ensures { λ b. ⌜ b ≡ admittedOf r ⌝ }
+{
+    if has_sizes(r) {
+        if has_ranges(r) {
+            return is_waiting(r, placed(r.next));
+        }
+    }
+    false
 }
 
 // A value takes the ring's next place.
