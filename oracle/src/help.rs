@@ -44,6 +44,8 @@ const AFTER_STAGES: &str = "
   decimator inputs > LIST | decimator answers < LIST
       runs of samples for the decimator, each with its state; a line per run, the digest of its
       values and its last state
+  resampler inputs > LIST | resampler answers < LIST
+      the same for the filter design and the resampler; the samples are made from seeds
 
   taps matched | taps derivative | taps table RATE
       the matched filter's 1,025 taps, their derivatives, or a rate's tap table, a line each

@@ -36,6 +36,7 @@ mod plan;
 mod random;
 mod random_state;
 mod receive;
+mod resampler_list;
 mod routine_list;
 mod samples;
 mod selftest;
@@ -73,6 +74,7 @@ fn run(words: &[&str]) -> Outcome {
         ["numbers", rest @ ..] => numbers::run(rest),
         ["routines", rest @ ..] => routine_list::run(rest),
         ["decimator", rest @ ..] => decimator_list::run(rest),
+        ["resampler", rest @ ..] => resampler_list::run(rest),
         ["taps", rest @ ..] => taps::run(rest),
         ["selftest", rest @ ..] => selftest::run(rest),
         _ => Err("no such subcommand; oracle/run help lists them".into()),
