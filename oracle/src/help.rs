@@ -44,6 +44,8 @@ const AFTER_STAGES: &str = "
   decimator inputs > LIST | decimator answers < LIST
       runs of samples for the decimator, each with its state; a line per run, the digest of its
       values and its last state
+  resampler inputs > LIST | resampler answers < LIST
+      the same for the filter design and the resampler; the samples are made from seeds
 
   view inputs > LIST | view answers < LIST
       pushes and reads of the constellation view, and a digest of what each answered

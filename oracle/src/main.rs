@@ -39,6 +39,7 @@ mod plan;
 mod random;
 mod random_state;
 mod receive;
+mod resampler_list;
 mod routine_list;
 mod samples;
 mod selftest;
@@ -83,6 +84,7 @@ fn run(words: &[&str]) -> Outcome {
         ["clock", rest @ ..] => clock_list::run(rest),
         ["oscillator", rest @ ..] => oscillator_list::run(rest),
         ["tables", rest @ ..] => tables::run(rest),
+        ["resampler", rest @ ..] => resampler_list::run(rest),
         ["taps", rest @ ..] => taps::run(rest),
         ["selftest", rest @ ..] => selftest::run(rest),
         _ => Err("no such subcommand; oracle/run help lists them".into()),
