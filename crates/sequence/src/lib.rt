@@ -6,4 +6,5 @@
 // `oldest` reads the one that a step needs, and the step's own comes back with its answer.
 pub mod combine;
 pub mod soft;
+pub mod step;
 pub mod walk;
