@@ -42,6 +42,8 @@ mod receive;
 mod resampler_list;
 mod routine_list;
 mod samples;
+mod script;
+mod script_writer;
 mod selftest;
 mod state;
 mod table;
@@ -86,6 +88,7 @@ fn run(words: &[&str]) -> Outcome {
         ["tables", rest @ ..] => tables::run(rest),
         ["resampler", rest @ ..] => resampler_list::run(rest),
         ["taps", rest @ ..] => taps::run(rest),
+        ["script", rest @ ..] => script_writer::run(rest),
         ["selftest", rest @ ..] => selftest::run(rest),
         _ => Err("no such subcommand; oracle/run help lists them".into()),
     }
