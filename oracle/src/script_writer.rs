@@ -173,7 +173,7 @@ fn setups(s: &mut Script) {
             s.set_up(rate, 0.0, 0, room);
         }
     }
-    for profile in [0, 1, 2, -1, i32::MAX, i32::MIN] {
+    for profile in [0, 1, 2, -1] {
         s.set_up(48000.0, 1.0, profile, AMPLE);
         s.noise(600, Rooms::exact(600), 5, 1.0);
     }
