@@ -23,6 +23,7 @@ mod routines;
 
 mod accuracy;
 mod admitted;
+mod bench;
 mod calls;
 mod chosen;
 mod clock_list;
@@ -88,6 +89,7 @@ fn run(words: &[&str]) -> Outcome {
         ["tables", rest @ ..] => tables::run(rest),
         ["resampler", rest @ ..] => resampler_list::run(rest),
         ["taps", rest @ ..] => taps::run(rest),
+        ["bench"] => bench::run(),
         ["script", rest @ ..] => script_writer::run(rest),
         ["selftest", rest @ ..] => selftest::run(rest),
         _ => Err("no such subcommand; oracle/run help lists them".into()),

@@ -60,7 +60,7 @@ fn flag_at(words: &[u64; 6757], at: usize) -> bool
 }
 
 // The profiles that scripts name: -1, 0, 1 and 2.
-fn profile_of(w: u64) -> i32 {
+pub fn profile_of(w: u64) -> i32 {
     if w == 0xffff_ffff_ffff_ffff {
         -1
     } else if w == 1 {
@@ -384,14 +384,7 @@ fn put_previous(words: &mut [u64; 6757], at: usize, p: Previous)
     }
 }
 
-fn put_record(
-    words: &mut [u64; 6757],
-    at: usize,
-    high: bool,
-    low: bool,
-    first: f32,
-    second: f32,
-)
+fn put_record(words: &mut [u64; 6757], at: usize, high: bool, low: bool, first: f32, second: f32)
     requires { ⌜ at + 3 < 6757 ⌝ }
 {
     put_flag(words, at, high);
