@@ -142,7 +142,7 @@ oldest-made d made h o l =
     ap (λ (z : ℕ). getD (d .records .slots) z (slotOf Unrecorded) .soft) e ∙ o .softs 30 (omega arith) (omega arith)
 
 -- ---- how many steps are held
-filled-next : (d : Detector) (i : Input) → stepOf d i .place .filled ≡ oneMore (d .place .filled)
+pub filled-next : (d : Detector) (i : Input) → stepOf d i .place .filled ≡ oneMore (d .place .filled)
 unfolding detectedOf detectedWith reportedOf
 filled-next d i = refl
 

@@ -6,3 +6,5 @@ pub mod Detector
 pub mod Laws
 pub mod Steps
 pub mod History
+pub mod Theorems
+pub mod Idle

@@ -39,20 +39,6 @@ module _ {A : Type 0} (a b : ℕ) (x y : A) where
   pub above-is : b ≤ a → y ≡ cond (ltb a b) x y
   above-is h = rw (is-false (ltb a b) (not-T (ltb a b) (λ t. let l = ltb→lt a b t in omega arith)))
 
--- ---- the step, from its parts
-module _ (d : DetectorPlace) (input : Complex32) (reliable : Bool) (oldest : Soft) (c : Planes) (costs : List Float) (parents : List ℕ) where
-  pub step-is : (best : ℕ) (after : List Float) (row stored : List ℕ) (guesses next : Planes) (t : Taps) (seen : Seen) (walked : Walked) (r : Detected)
-      → _≡_ {A = Advance} (record { best = best; costs = after; parents = row; predictions = guesses }) (advancedOf c costs input reliable)
-      → t ≡ tapsOf c (getD row best 0)
-      → seen ≡ seenOf input reliable t (getD row best 0)
-      → next ≡ followedOf c row guesses input reliable
-      → stored ≡ storedOf parents (d .write) row
-      → walked ≡ walkedOf stored (d .write) (d .filled) best (d .previous) oldest
-      → r ≡ reportedOf d walked seen input (pointAt guesses best) reliable
-      → _≡_ {A = Run} (record { detected = r; channels = next; costs = after; parents = stored }) (detectedOf d input reliable oldest c costs parents)
-  unfolding detectedOf detectedWith
-  step-is best after row stored guesses next t seen walked r ea et es en ep ew er = rw (er, ew, es, et, en, ep) (ap (detectedWith d input reliable oldest c parents) ea)
-
 -- ---- a stored row
 past-laid : (f : ℕ → ℕ) (from n : ℕ) (l : List ℕ) (j : ℕ) → from + n ≤ j → getD (laid f from n l) j 0 ≡ getD l j 0
 unfolding laid
@@ -122,15 +108,27 @@ detected-ranged d input reliable oldest c costs parents h = record {
   parents-size = stored-size parents (d .write) _ (h .write) (h .parents-size);
 }
 
--- the same of what a step leaves
-abbrev RunRanged : Run → Type 0
-RunRanged r = Ranged (r .detected .place) (r .channels .real) (r .channels .imaginary) (r .costs) (r .parents)
-
-pub step-ranged : (d : DetectorPlace) (input : Complex32) (reliable : Bool) (oldest : Soft) (c : Planes) (costs : List Float) (parents : List ℕ) (r : Run)
-    → r ≡ detectedOf d input reliable oldest c costs parents → Ranged d (c .real) (c .imaginary) costs parents
-    → Ranged (r .detected .place) (r .channels .real) (r .channels .imaginary) (r .costs) (r .parents)
-step-ranged d input reliable oldest c costs parents r e h = subst RunRanged (sym e) (detected-ranged d input reliable oldest c costs parents h)
-
 -- what the walk back asks of the parents, once the row is stored
 pub asked-table : (parents : List ℕ) (write : ℕ) (row stored : List ℕ) → stored ≡ storedOf parents write row → write < 32 → length parents ≡ 2048 → Table parents → Parents row → Table stored
 asked-table parents write row stored e w n t p = subst Table (sym e) (stored-table parents write row w n t p)
+
+-- ---- the step, from its parts
+abbrev RunRanged : Run → Type 0
+RunRanged r = Ranged (r .detected .place) (r .channels .real) (r .channels .imaginary) (r .costs) (r .parents)
+
+pub step-meets : (d : DetectorPlace) (input : Complex32) (reliable : Bool) (oldest : Soft) (c : Planes) (costs : List Float) (parents : List ℕ)
+    (best : ℕ) (after : List Float) (row stored : List ℕ) (guesses next : Planes) (t : Taps) (seen : Seen) (walked : Walked) (r : Detected)
+    → _≡_ {A = Advance} (record { best = best; costs = after; parents = row; predictions = guesses }) (advancedOf c costs input reliable)
+    → t ≡ tapsOf c (getD row best 0)
+    → seen ≡ seenOf input reliable t (getD row best 0)
+    → next ≡ followedOf c row guesses input reliable
+    → stored ≡ storedOf parents (d .write) row
+    → walked ≡ walkedOf stored (d .write) (d .filled) best (d .previous) oldest
+    → r ≡ reportedOf d walked seen input (pointAt guesses best) reliable
+    → Ranged d (c .real) (c .imaginary) costs parents
+    → (_≡_ {A = Run} (record { detected = r; channels = next; costs = after; parents = stored }) (detectedOf d input reliable oldest c costs parents))
+    × Ranged (r .place) (next .real) (next .imaginary) after stored
+step-meets d input reliable oldest c costs parents best after row stored guesses next t seen walked r ea et es en ep ew er h = (same, subst RunRanged (sym same) (detected-ranged d input reliable oldest c costs parents h))
+  where
+    same : _≡_ {A = Run} (record { detected = r; channels = next; costs = after; parents = stored }) (detectedOf d input reliable oldest c costs parents)
+    same = unfold detectedOf in unfold detectedWith in rw (er, ew, es, et, en, ep) (ap (detectedWith d input reliable oldest c parents) ea)
