@@ -45,7 +45,7 @@ next-write : (d : Detector) (i : Input) → stepOf d i .place .write ≡ (d .pla
 unfolding detectedOf detectedWith reportedOf
 next-write d i = refl
 
-next-parents : (d : Detector) (i : Input) → runOf d i .parents ≡ storedOf (d .parents) (d .place .write) (madeBy d i .row)
+pub next-parents : (d : Detector) (i : Input) → runOf d i .parents ≡ storedOf (d .parents) (d .place .write) (madeBy d i .row)
 unfolding detectedOf detectedWith
 next-parents d i = refl
 

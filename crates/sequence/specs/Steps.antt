@@ -1,6 +1,6 @@
 -- Laws of the detector's step: what the proofs of its functions apply, and the ranges that a step keeps. Assumes nothing.
 use mathlib.Core.Path.{_≡_, ap, sym, _∙_, subst}
-use mathlib.Core.Logic.{⊎-elim}
+use mathlib.Core.Logic.{_⊎_, inl, inr, ⊎-elim}
 use Prim.Native.Nat.{ℕ, _+_, _-_, _*_, _/_, _%_, _≤_, _<_}
 use native.Mathlib.Omega.{arith}
 use mathlib.Core.Bool.{Bool, true, false, cond}
@@ -39,6 +39,13 @@ module _ {A : Type 0} (a b : ℕ) (x y : A) where
   pub above-is : b ≤ a → y ≡ cond (ltb a b) x y
   above-is h = rw (is-false (ltb a b) (not-T (ltb a b) (λ t. let l = ltb→lt a b t in omega arith)))
 
+pub same-or-other : (a b : ℕ) → (a ≡ b) ⊎ (a ≡ b → ⊥)
+same-or-other a b =
+    ⊎-elim
+    (λ l. inr (λ e. omega arith))
+    (λ g. ⊎-elim (λ l. inl (omega arith)) (λ o. inr (λ e. omega arith)) (lt-or-ge a (b + 1)))
+    (lt-or-ge a b)
+
 -- ---- a stored row
 past-laid : (f : ℕ → ℕ) (from n : ℕ) (l : List ℕ) (j : ℕ) → from + n ≤ j → getD (laid f from n l) j 0 ≡ getD l j 0
 unfolding laid
@@ -73,12 +80,9 @@ module _ (parents : List ℕ) (write : ℕ) (row : List ℕ) (in-ring : write < 
       at : (w s : ℕ) → w < 32 → s < 64 → getD (storedOf parents write row) (64 * w + s) 0 < 64
       at w s h k =
           ⊎-elim
-          (λ l. rw (stored-other w s k (λ e. omega arith)) (t .below (64 * w + s) (omega arith)))
-          (λ g. ⊎-elim
-          (λ l. let e : w ≡ write = omega arith in rw (e, stored-row s k) (p .below s k))
-          (λ o. rw (stored-other w s k (λ e. omega arith)) (t .below (64 * w + s) (omega arith)))
-          (lt-or-ge w (write + 1)))
-          (lt-or-ge w write)
+          (λ e. subst (λ (z : ℕ). getD (storedOf parents write row) (64 * z + s) 0 < 64) (sym e) (rw (stored-row s k) (p .below s k)))
+          (λ n. rw (stored-other w s k n) (t .below (64 * w + s) (omega arith)))
+          (same-or-other w write)
 
 -- ---- ranges
 walked-earlier : (parents : List ℕ) (newest filled best : ℕ) (previous : Previous) (oldest : Soft) → Earlier previous → Earlier (walkedOf parents newest filled best previous oldest .previous)

@@ -5,7 +5,7 @@ use Prim.Native.Nat.{ℕ, zero, suc, _+_, _%_, _≤_, _<_}
 use native.Mathlib.Omega.{arith}
 use mathlib.Core.List.{List, [], _∷_}
 use lib.ListN.{length, getD, length-replicate, getD-replicate}
-use lib.Ieee.{Float, nan, binary32, ofBits}
+use lib.Ieee.{nan, binary32, ofBits}
 use Rattle.laws.specs.Places.{length-upto}
 use Rattle.laws.specs.Ring.{lt-or-ge}
 use Rattle.laws.specs.FloatSums.{In}
@@ -79,7 +79,7 @@ pub record Counted (n : ℕ) (d : Detector) : Type 0 where
   pub unknown : n < 32 → d .place .previous ≡ Unknown
   pub known : 32 ≤ n → Known (d .place .previous)
 
-counted-fresh : Counted 0 freshDetector
+pub counted-fresh : Counted 0 freshDetector
 unfolding freshDetector
 counted-fresh = record { fewer = λ l. refl; full = λ l. absurd (omega arith); unknown = λ l. refl; known = λ l. absurd (omega arith) }
 
@@ -94,7 +94,7 @@ module _ (n : ℕ) (d : Detector) (i : Input) (h : Counted n d) where
       (λ g. subst (λ (z : ℕ). 31 ≤ z) (sym (h .full g)) (omega arith))
       (lt-or-ge n 32)
 
-  counted-step : Counted (suc n) (stepOf d i)
+  pub counted-step : Counted (suc n) (stepOf d i)
   counted-step = record {
     fewer = λ l. let e : n + 1 ≡ suc n = omega arith in filled-next d i ∙ ap oneMore (h .fewer (omega arith)) ∙ sym (below-is n 32 (n + 1) 32 (omega arith)) ∙ e;
     full = λ l. filled-next d i ∙ ⊎-elim
@@ -105,10 +105,10 @@ module _ (n : ℕ) (d : Detector) (i : Input) (h : Counted n d) where
     known = λ l. subst Known (sym (previous-walked d i ∙ ap (λ (z : Walked). z .previous) (sym (walk-full d i (full-held (omega arith)))))) tt;
   }
 
-  quiet : n < 31 → answerOf d i ≡ Silent
+  pub quiet : n < 31 → answerOf d i ≡ Silent
   quiet l = answer-walked d i ∙ ap (λ (z : Walked). z .answer) (sym (walk-silent d i (held l)))
 
-  decided : 31 ≤ n → answerOf d i ≡ decidedOf (stateBefore (runOf d i .parents) (d .place .write) (bestOf d i) % 4) (d .place .previous) (oldestOf d)
+  pub decided : 31 ≤ n → answerOf d i ≡ decidedOf (stateBefore (runOf d i .parents) (d .place .write) (bestOf d i) % 4) (d .place .previous) (oldestOf d)
   decided l = answer-walked d i ∙ ap (λ (z : Walked). z .answer) (sym (walk-full d i (full-held l)))
 
 counted-ran : (n : ℕ) (d : Detector) (is : List Input) → Counted n d → Counted (n + length is) (ranOf d is)
