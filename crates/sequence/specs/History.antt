@@ -20,6 +20,7 @@ use Rattle.sequence.specs.Observed.{slotOf}
 use Rattle.sequence.specs.Walk.{storedOf, parentBefore, stateBefore, decidedOf, walkedOf}
 use Rattle.sequence.specs.Sequence.{oneMore, reportedOf, detectedWith, detectedOf}
 use Rattle.sequence.specs.Ranges.{Ranged}
+use Rattle.sequence.specs.Laws.{walk-silent, walk-full}
 use Rattle.sequence.specs.Steps.{below-is, above-is, stored-row, stored-other, detected-ranged}
 use Rattle.sequence.specs.Detector.{Detector, Input, oldestOf, runOf, answerOf, putOf, stepOf, ranOf, Made, madeBy, madeAt, historyOf, traced}
 
@@ -158,30 +159,46 @@ filled-least d (i ∷ is) n a l = filled-least (stepOf d i) is n a (rw (filled-n
         (lt-or-ge f 32)
 
 -- ---- what a step answers
-abbrev pub bestOf : Detector → Input → ℕ
-bestOf d i = advancedOf (d .channels) (d .costs) (i .value) (i .reliable) .best
+abbrev pub bestState : Detector → Input → ℕ
+bestState d i = advancedOf (d .channels) (d .costs) (i .value) (i .reliable) .best
+
+-- where the walk back ends
+abbrev pub endOf : Detector → Input → ℕ
+endOf d i = stateBefore (runOf d i .parents) (d .place .write) (bestState d i)
 
 abbrev walkOf : Detector → Input → Walked
-walkOf d i = walkedOf (runOf d i .parents) (d .place .write) (d .place .filled) (bestOf d i) (d .place .previous) (oldestOf d)
+walkOf d i = walkedOf (runOf d i .parents) (d .place .write) (d .place .filled) (bestState d i) (d .place .previous) (oldestOf d)
 
-pub answer-walked : (d : Detector) (i : Input) → answerOf d i ≡ walkOf d i .answer
-unfolding detectedOf detectedWith reportedOf
-answer-walked d i = refl
+module _ (d : Detector) (i : Input) where
+  answer-walked : answerOf d i ≡ walkOf d i .answer
+  unfolding detectedOf detectedWith reportedOf
+  answer-walked = refl
 
-pub previous-walked : (d : Detector) (i : Input) → stepOf d i .place .previous ≡ walkOf d i .previous
-unfolding detectedOf detectedWith reportedOf
-previous-walked d i = refl
+  previous-walked : stepOf d i .place .previous ≡ walkOf d i .previous
+  unfolding detectedOf detectedWith reportedOf
+  previous-walked = refl
 
-pub walk-full : (d : Detector) (i : Input) → 31 ≤ d .place .filled
-    → _≡_ {A = Walked} (record { previous = Symbol (stateBefore (runOf d i .parents) (d .place .write) (bestOf d i) % 4); answer = decidedOf (stateBefore (runOf d i .parents) (d .place .write) (bestOf d i) % 4) (d .place .previous) (oldestOf d) }) (walkOf d i)
-unfolding walkedOf
-walk-full d i h = above-is (d .place .filled) 31 _ _ h
+  -- with fewer than 31 steps before it, a step is silent
+  short : d .place .filled < 31 → walkOf d i ≡ record { previous = d .place .previous; answer = Silent }
+  short h = sym (walk-silent _ _ _ _ _ _ h)
 
-pub walk-silent : (d : Detector) (i : Input) → d .place .filled < 31 → _≡_ {A = Walked} (record { previous = d .place .previous; answer = Silent }) (walkOf d i)
-unfolding walkedOf
-walk-silent d i h = below-is (d .place .filled) 31 _ _ h
+  pub answer-short : d .place .filled < 31 → answerOf d i ≡ Silent
+  answer-short h = answer-walked ∙ ap (λ (z : Walked). z .answer) (short h)
 
-best-state : (d : Detector) (i : Input) → bestOf d i < 64
+  pub previous-short : d .place .filled < 31 → stepOf d i .place .previous ≡ d .place .previous
+  previous-short h = previous-walked ∙ ap (λ (z : Walked). z .previous) (short h)
+
+  -- with 31 it is decided
+  long : 31 ≤ d .place .filled → walkOf d i ≡ record { previous = Symbol (endOf d i % 4); answer = decidedOf (endOf d i % 4) (d .place .previous) (oldestOf d) }
+  long h = sym (walk-full _ _ _ _ _ _ _ _ h refl refl)
+
+  pub answer-long : 31 ≤ d .place .filled → answerOf d i ≡ decidedOf (endOf d i % 4) (d .place .previous) (oldestOf d)
+  answer-long h = answer-walked ∙ ap (λ (z : Walked). z .answer) (long h)
+
+  pub previous-long : 31 ≤ d .place .filled → stepOf d i .place .previous ≡ Symbol (endOf d i % 4)
+  previous-long h = previous-walked ∙ ap (λ (z : Walked). z .previous) (long h)
+
+best-state : (d : Detector) (i : Input) → bestState d i < 64
 unfolding advancedOf
 best-state d i = best-below _
 
@@ -189,14 +206,13 @@ best-state d i = best-below _
 -- the record that the step 31 before made
 pub answered : (d : Detector) (is : List Input) (i : Input) → Sound d → 31 ≤ length is
     → answerOf (ranOf d is) i
-    ≡ decidedOf (traced (madeBy (ranOf d is) i ∷ historyOf d [] is) 31 (bestOf (ranOf d is) i) % 4) (ranOf d is .place .previous) (madeAt (historyOf d [] is) 30 .soft)
+    ≡ decidedOf (traced (madeBy (ranOf d is) i ∷ historyOf d [] is) 31 (bestState (ranOf d is) i) % 4) (ranOf d is .place .previous) (madeAt (historyOf d [] is) 30 .soft)
 answered d is i h l =
     let e = ranOf d is in
     let s = ran-sound d is h in
     let made = historyOf d [] is in
     let o = holds-ran d [] is h (holds-none d) in
     let n : 31 ≤ length made = subst (λ (z : ℕ). 31 ≤ z) (sym (history-length d [] is)) (omega arith) in
-    answer-walked e i
-    ∙ ap (λ (z : Walked). z .answer) (sym (walk-full e i (filled-least d is 31 (omega arith) (omega arith))))
-    ∙ ap (λ (z : ℕ). decidedOf (z % 4) (e .place .previous) (oldestOf e)) (state-traced e i made s o (omega arith) (bestOf e i) (best-state e i))
-    ∙ ap (decidedOf (traced (madeBy e i ∷ made) 31 (bestOf e i) % 4) (e .place .previous)) (oldest-made e made s o n)
+    answer-long e i (filled-least d is 31 (omega arith) (omega arith))
+    ∙ ap (λ (z : ℕ). decidedOf (z % 4) (e .place .previous) (oldestOf e)) (state-traced e i made s o (omega arith) (bestState e i) (best-state e i))
+    ∙ ap (decidedOf (traced (madeBy e i ∷ made) 31 (bestState e i) % 4) (e .place .previous)) (oldest-made e made s o n)

@@ -27,14 +27,12 @@ use Rattle.sequence.specs.declared.walk.Previous.{Previous}
 use Rattle.sequence.specs.declared.walk.Previous.the-variants.{Unknown, Symbol}
 use Rattle.sequence.specs.declared.walk.Answer.{Answer}
 use Rattle.sequence.specs.declared.walk.Answer.the-variants.{Silent, Dibit}
-use Rattle.sequence.specs.declared.walk.Walked.{Walked}
 use Rattle.sequence.specs.Observed.{seenWith, seenOf, recordOf, slotOf}
 use Rattle.sequence.specs.Walk.{storedOf, parentBefore, stateBefore, decidedOf}
 use Rattle.sequence.specs.Sequence.{freshRecords, reportedOf, detectedWith, detectedOf}
 use Rattle.sequence.specs.Steps.{below-is, above-is, same-or-other, stored-row, stored-other}
 use Rattle.sequence.specs.Detector.{Detector, freshDetector, Input, oldestOf, runOf, answerOf, putOf, stepOf, answersOf, madeBy}
-use Rattle.sequence.specs.History as History
-use Rattle.sequence.specs.History.{Sound, step-sound, next-parents, previous-walked, walk-full, walk-silent}
+use Rattle.sequence.specs.History.{Sound, step-sound, next-parents, endOf, previous-short, previous-long}
 use Rattle.sequence.specs.Theorems.{fresh-sound, Counted, counted-fresh, counted-step, quiet, decided}
 
 abbrev none : Float
@@ -173,15 +171,15 @@ module _ (d : Detector) (i : Input) (h : Idle d) (off : i .reliable ≡ false) w
   back-zero zero l = refl
   back-zero (suc n) l = ap (parentBefore (runOf d i .parents) (d .place .write) n) (back-zero n (omega arith)) ∙ new-roots ((d .place .write + 32 - n) % 32) (omega arith)
 
-  state-zero : stateBefore (runOf d i .parents) (d .place .write) (History.bestOf d i) ≡ 0
+  state-zero : endOf d i ≡ 0
   unfolding stateBefore
   state-zero = ap (turns (parentBefore (runOf d i .parents) (d .place .write)) 31) (best-zero (d .channels) (d .costs) (i .value) (i .reliable) off (h .costs)) ∙ back-zero 31 (omega arith)
 
   still : AtZero (stepOf d i .place .previous)
   still =
       ⊎-elim
-      (λ a. subst AtZero (sym (previous-walked d i ∙ ap (λ (z : Walked). z .previous) (sym (walk-silent d i a)))) (h .previous))
-      (λ a. subst AtZero (sym (previous-walked d i ∙ ap (λ (z : Walked). z .previous) (sym (walk-full d i a)))) (ap (λ (z : ℕ). z % 4) state-zero))
+      (λ a. subst AtZero (sym (previous-short d i a)) (h .previous))
+      (λ a. subst AtZero (sym (previous-long d i a)) (ap (λ (z : ℕ). z % 4) state-zero))
       (lt-or-ge (d .place .filled) 31)
 
   new-softs : (k : ℕ) → k < 32 → getD (stepOf d i .records .slots) k (slotOf Unrecorded) .soft ≡ Unrecorded

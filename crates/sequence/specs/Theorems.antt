@@ -18,13 +18,12 @@ use Rattle.sequence.specs.declared.walk.Previous.{Previous}
 use Rattle.sequence.specs.declared.walk.Previous.the-variants.{Unknown, Symbol}
 use Rattle.sequence.specs.declared.walk.Answer.{Answer}
 use Rattle.sequence.specs.declared.walk.Answer.the-variants.{Silent, Dibit}
-use Rattle.sequence.specs.declared.walk.Walked.{Walked}
 use Rattle.sequence.specs.Observed.{slotOf}
-use Rattle.sequence.specs.Walk.{stateBefore, decidedOf}
+use Rattle.sequence.specs.Walk.{decidedOf}
 use Rattle.sequence.specs.Sequence.{freshReal, freshRecords, oneMore, detectedWith, detectedOf}
 use Rattle.sequence.specs.Steps.{below-is}
-use Rattle.sequence.specs.Detector.{Detector, freshDetector, Input, oldestOf, runOf, answerOf, stepOf, ranOf}
-use Rattle.sequence.specs.History.{Sound, filled-next, bestOf, answer-walked, previous-walked, walk-full, walk-silent}
+use Rattle.sequence.specs.Detector.{Detector, freshDetector, Input, oldestOf, answerOf, stepOf, ranOf}
+use Rattle.sequence.specs.History.{Sound, filled-next, endOf, answer-short, answer-long, previous-short, previous-long}
 
 -- ---- costs
 abbrev Costs : Detector → Type 0
@@ -101,15 +100,15 @@ module _ (n : ℕ) (d : Detector) (i : Input) (h : Counted n d) where
         (λ b. let e : n ≡ 31 = omega arith in ap oneMore (h .fewer b ∙ e))
         (λ g. ap oneMore (h .full g))
         (lt-or-ge n 32);
-    unknown = λ l. previous-walked d i ∙ ap (λ (z : Walked). z .previous) (sym (walk-silent d i (held (omega arith)))) ∙ h .unknown (omega arith);
-    known = λ l. subst Known (sym (previous-walked d i ∙ ap (λ (z : Walked). z .previous) (sym (walk-full d i (full-held (omega arith)))))) tt;
+    unknown = λ l. previous-short d i (held (omega arith)) ∙ h .unknown (omega arith);
+    known = λ l. subst Known (sym (previous-long d i (full-held (omega arith)))) tt;
   }
 
   pub quiet : n < 31 → answerOf d i ≡ Silent
-  quiet l = answer-walked d i ∙ ap (λ (z : Walked). z .answer) (sym (walk-silent d i (held l)))
+  quiet l = answer-short d i (held l)
 
-  pub decided : 31 ≤ n → answerOf d i ≡ decidedOf (stateBefore (runOf d i .parents) (d .place .write) (bestOf d i) % 4) (d .place .previous) (oldestOf d)
-  decided l = answer-walked d i ∙ ap (λ (z : Walked). z .answer) (sym (walk-full d i (full-held l)))
+  pub decided : 31 ≤ n → answerOf d i ≡ decidedOf (endOf d i % 4) (d .place .previous) (oldestOf d)
+  decided l = answer-long d i (full-held l)
 
 counted-ran : (n : ℕ) (d : Detector) (is : List Input) → Counted n d → Counted (n + length is) (ranOf d is)
 counted-ran n d [] h = let e : n ≡ n + 0 = omega arith in subst (λ (z : ℕ). Counted z d) e h
@@ -126,7 +125,7 @@ module _ (is : List Input) (i : Input) where
   pub then-zero : length is ≡ 31 → answerOf (ranOf freshDetector is) i ≡ Dibit 0 0 0
   then-zero e =
       decided (length is) (ranOf freshDetector is) i (counted is) (omega arith)
-      ∙ ap (λ (z : Previous). decidedOf (stateBefore (runOf (ranOf freshDetector is) i .parents) (ranOf freshDetector is .place .write) (bestOf (ranOf freshDetector is) i) % 4) z (oldestOf (ranOf freshDetector is))) (counted is .unknown (omega arith))
+      ∙ ap (λ (z : Previous). decidedOf (endOf (ranOf freshDetector is) i % 4) z (oldestOf (ranOf freshDetector is))) (counted is .unknown (omega arith))
 
   pub later-told : 32 ≤ length is → Told (answerOf (ranOf freshDetector is) i)
   later-told l = subst Told (sym (decided (length is) (ranOf freshDetector is) i (counted is) (omega arith))) (go _ (ranOf freshDetector is .place .previous) (oldestOf (ranOf freshDetector is)) (counted is .known l))
