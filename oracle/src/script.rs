@@ -71,6 +71,16 @@ struct Line {
     answer: u64,
 }
 
+/// What a script came to.
+#[derive(Default)]
+struct Counts {
+    calls: u64,
+    refused: u64,
+    samples: u64,
+    dibits: u64,
+    states: u64,
+}
+
 pub fn answers() -> Result<(), String> {
     let mut input = BufReader::with_capacity(1 << 20, io::stdin());
     let mut output = BufWriter::new(io::stdout());
@@ -78,15 +88,27 @@ pub fn answers() -> Result<(), String> {
         words: vec![0; STATE_WORDS],
         table: vec![0.0; TABLE_FLOATS],
     };
+    let mut counts = Counts::default();
     while let Some(head) = next_words(&mut input, 8, true)? {
         let Some(line) = desk.entry(&head, &mut input)? else {
+            counts.states += u64::from(head[0] == 4);
             continue;
         };
+        counts.calls += 1;
+        counts.refused += u64::from(line.refusal > 0);
+        if head[0] == 1 && line.refusal == 0 {
+            counts.samples += head[1] / 2;
+            counts.dibits += line.count;
+        }
         let state = desk.words.iter().fold(0, |h, &x| folded(h, x));
         let first = line.refusal + 16 * line.count;
         writeln!(output, "{first:016x} {:016x} {state:016x}", line.answer)
             .map_err(|e| e.to_string())?;
     }
+    eprintln!(
+        "{} calls, {} of them refused, {} samples, {} dibits, {} states handed in",
+        counts.calls, counts.refused, counts.samples, counts.dibits, counts.states
+    );
     output.flush().map_err(|e| e.to_string())
 }
 
