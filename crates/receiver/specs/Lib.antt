@@ -1,2 +1,4 @@
 pub mod Refusal
 pub mod State
+pub mod Samples
+pub mod Loud

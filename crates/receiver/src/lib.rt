@@ -2,4 +2,5 @@
 // caller is checked, and answered by a refusal.
 
 pub mod refusal;
+mod samples;
 pub mod state;
