@@ -1,6 +1,7 @@
 -- The carrier loop, as the Rust's `Carrier` has it: f64 but for what the detector gives. Definitions only.
-use Prim.Native.Nat.{_+_, _%_}
+use Prim.Native.Nat.{ℕ, _+_, _%_}
 use mathlib.Core.Bool.{Bool, false, _&&_}
+use mathlib.Core.List.{List}
 use lib.IntN.{pos}
 use lib.Ieee.{Float, binary32, binary64, ofBits, ofInt, add, sub, mul, div, neg, lt}
 use Rattle.numbers.specs.Numbers.{toEven, wholeOf, clampOf}
@@ -9,11 +10,19 @@ use Rattle.routines.specs.Circle.{pairOf}
 use Rattle.routines.specs.declared.circle.SineCosine.{SineCosine}
 use Rattle.complex.specs.declared.Complex32.{Complex32}
 use Rattle.complex.specs.Complex.{narrowedOf}
+use Rattle.tracker.specs.Tracker.{Planes}
+use Rattle.sequence.specs.declared.soft.Soft.{Soft}
+use Rattle.sequence.specs.Sequence as Sequence
 use Rattle.carrier.specs.declared.Loop.{Loop}
+use Rattle.carrier.specs.declared.CarrierPlace.{CarrierPlace}
+use Rattle.carrier.specs.declared.Carried.{Carried}
 
 -- phase, frequency and error zero, not locked
 abbrev pub freshLoop : Loop
 freshLoop = record { phase = ofBits binary64 0; frequency = ofBits binary64 0; alternation = 0; locked = false; error = ofBits binary64 0 }
+
+abbrev pub freshPlace : CarrierPlace
+freshPlace = record { turn = freshLoop; detector = Sequence.freshPlace }
 
 -- ---- the correction
 
@@ -71,3 +80,31 @@ turnedOf l phase power reliable =
     let frequency = frequencyOf (l .frequency) e in
     let error = errorOf (l .error) power in
     record { phase = phaseOf (l .phase) frequency e; frequency = frequency; alternation = (l .alternation + 1) % 8; locked = lockedOf reliable error; error = error }
+
+-- ---- a symbol
+
+-- what a step leaves
+pub record Run : Type 0 where
+  pub carried : Carried
+  pub channels : Planes
+  pub costs : List Float
+  pub parents : List ℕ
+
+-- what the detector's step makes of the loop
+abbrev pub carriedWith : CarrierPlace → Bool → Sequence.Run → Run
+carriedWith c reliable d = record {
+  carried = record {
+    place = record { turn = turnedOf (c .turn) (d .detected .phase) (d .detected .power) reliable; detector = d .detected .place };
+    answer = d .detected .answer;
+    soft = d .detected .soft;
+    equalized = d .detected .equalized;
+  };
+  channels = d .channels;
+  costs = d .costs;
+  parents = d .parents;
+}
+
+-- the symbol is corrected, and the detector takes its step
+unfoldable pub carriedOf : CarrierPlace → Complex32 → Bool → Soft → Planes → List Float → List ℕ → Run
+carriedOf c z reliable oldest channels costs parents =
+    carriedWith c reliable (Sequence.detectedOf (c .detector) (correctedOf (c .turn) z) reliable oldest channels costs parents)

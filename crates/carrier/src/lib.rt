@@ -2,7 +2,8 @@
 // constellation's alternation, and follows the phase of what the detector missed by.
 ghost use mathlib.Core.Path.{_≡_};
 ghost use Prim.Native.Nat.{_≤_};
-ghost use Rattle.carrier.specs.Carrier.{rotationOf, turnedBack, correctedOf, unwoundOf, phaseErrorOf, frequencyOf, phaseOf, errorOf, lockedOf, turnedOf};
+ghost use Rattle.carrier.specs.Carrier.{freshPlace, rotationOf, turnedBack, correctedOf, unwoundOf, phaseErrorOf, frequencyOf, phaseOf, errorOf, lockedOf, turnedOf, Run, carriedOf};
+ghost use Rattle.carrier.specs.Ranges.{Ranged};
 use complex::Complex32;
 use complex::Complex64;
 use numbers::compare::clamp;
@@ -41,6 +42,21 @@ pub struct Carried {
     pub answer: Answer,
     pub soft: Soft,
     pub equalized: Observation,
+}
+
+pub fn fresh() -> CarrierPlace
+    ensures { λ r. ⌜ r ≡ freshPlace ⌝ }
+{
+    CarrierPlace {
+        turn: Loop {
+            phase: 0.0,
+            frequency: 0.0,
+            alternation: 0,
+            locked: false,
+            error: 0.0,
+        },
+        detector: sequence::step::fresh(),
+    }
 }
 
 // The constellation turns by pi / 4 with each symbol.
@@ -119,5 +135,50 @@ fn turned(l: Loop, phase: f32, power: f32, reliable: bool) -> Loop
         alternation: (l.alternation + 1) % 8,
         locked: is_locked(reliable, error),
         error,
+    }
+}
+
+// One symbol. `oldest` is the soft record of 31 steps before; the caller puts the step's own in the
+// detector's slot.
+pub fn step(
+    c: CarrierPlace,
+    sample: Complex32,
+    reliable: bool,
+    oldest: Soft,
+    channel_real: &mut [f32; 256],
+    channel_imaginary: &mut [f32; 256],
+    costs: &mut [f32; 64],
+    parents: &mut [u8; 2048],
+) -> Carried
+    requires { ⌜ Ranged c (now «channel_real») (now «channel_imaginary») (now costs) (now parents) ⌝ }
+    ensures same { λ r. ⌜ _≡_ {A = Run} (record { carried = r; channels = record { real = now («channel_real» .exit); imaginary = now («channel_imaginary» .exit) }; costs = now (costs .exit); parents = now (parents .exit) }) (carriedOf c sample reliable oldest (record { real = now («channel_real» .entry); imaginary = now («channel_imaginary» .entry) }) (now (costs .entry)) (now (parents .entry))) ⌝ }
+    ensures kept { λ r. ⌜ Ranged (r .place) (now («channel_real» .exit)) (now («channel_imaginary» .exit)) (now (costs .exit)) (now (parents .exit)) ⌝ }
+{
+    let before = c.turn;
+    let detector = c.detector;
+    let input = corrected(before, sample);
+    let d = sequence::step::step(
+        detector,
+        input,
+        reliable,
+        oldest,
+        channel_real,
+        channel_imaginary,
+        costs,
+        parents,
+    );
+    let turn = turned(before, d.phase, d.power, reliable);
+    let next = d.place;
+    let answer = d.answer;
+    let soft = d.soft;
+    let equalized = d.equalized;
+    Carried {
+        place: CarrierPlace {
+            turn,
+            detector: next,
+        },
+        answer,
+        soft,
+        equalized,
     }
 }
