@@ -3,3 +3,4 @@ pub mod Walk
 pub mod Sequence
 pub mod Ranges
 pub mod Laws
+pub mod Steps
