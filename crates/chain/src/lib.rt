@@ -1,5 +1,7 @@
 // The chain: a row of resampled values to dibits, through peak keeper, clock, equalizer, carrier
 // with detector, and view.
+pub mod label;
+
 use carrier::CarrierPlace;
 use clock::ClockPlace;
 use peak::KeeperPlace;

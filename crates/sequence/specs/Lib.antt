@@ -1,3 +1,6 @@
 pub mod Observed
 pub mod Walk
+pub mod Sequence
+pub mod Ranges
 pub mod Laws
+pub mod Steps
