@@ -2,3 +2,6 @@ pub mod Refusal
 pub mod State
 pub mod Samples
 pub mod Loud
+pub mod Admitted
+pub mod Largest
+pub mod AdmittedTests

@@ -1,6 +1,7 @@
 // The receiver: setup, blocks of samples, and the reading of the constellation. What is asked of a
 // caller is checked, and answered by a refusal.
 
+pub mod admitted;
 pub mod refusal;
 mod samples;
 pub mod state;
