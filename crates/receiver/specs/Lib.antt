@@ -5,3 +5,4 @@ pub mod Loud
 pub mod Admitted
 pub mod Largest
 pub mod AdmittedTests
+pub mod Fits

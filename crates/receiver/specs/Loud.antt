@@ -92,16 +92,16 @@ unfolding turns
 sums-same f g zero h = refl
 sums-same f g (suc n) h = rw (sums-same f g n (λ k l. h k (omega arith)), h n (omega arith))
 
-and-true : (a b : Bool) → (a && b) ≡ true → (a ≡ true) × (b ≡ true)
+pub and-true : (a b : Bool) → (a && b) ≡ true → (a ≡ true) × (b ≡ true)
 and-true true b h = (refl, h)
 and-true false b h = absurd (false≢true h)
 
-all-true : (g : ℕ → Bool) (n : ℕ) → ((k : ℕ) → k < n → g k ≡ true) → turns (λ (k : ℕ) (b : Bool). b && g k) n true ≡ true
+pub all-true : (g : ℕ → Bool) (n : ℕ) → ((k : ℕ) → k < n → g k ≡ true) → turns (λ (k : ℕ) (b : Bool). b && g k) n true ≡ true
 unfolding turns
 all-true g zero h = refl
 all-true g (suc n) h = rw (all-true g n (λ k l. h k (omega arith)), h n (omega arith))
 
-true-all : (g : ℕ → Bool) (n : ℕ) → turns (λ (k : ℕ) (b : Bool). b && g k) n true ≡ true → (k : ℕ) → k < n → g k ≡ true
+pub true-all : (g : ℕ → Bool) (n : ℕ) → turns (λ (k : ℕ) (b : Bool). b && g k) n true ≡ true → (k : ℕ) → k < n → g k ≡ true
 unfolding turns
 true-all g zero h k l = absurd (omega arith)
 true-all g (suc n) h k l =
