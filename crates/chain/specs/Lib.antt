@@ -1,2 +1,5 @@
 pub mod Labels
 pub mod LabelLaws
+pub mod Chain
+pub mod Ranges
+pub mod Laws
