@@ -93,6 +93,18 @@ pub record ChainState : Type 0 where
   pub parents : List ℕ
   pub view : Planes
 
+abbrev pub stateOf : ChainPlace → List Float → List Float → List Float → List Float → List Float → List Float → List Float → List Float → List Float → List ℕ → List Float → List Float → ChainState
+stateOf p kr ki tr ti wr wi hr hi costs parents vr vi = record {
+  place = p;
+  keeper = record { real = kr; imaginary = ki };
+  clock = record { real = tr; imaginary = ti };
+  weights = record { real = wr; imaginary = wi };
+  channels = record { real = hr; imaginary = hi };
+  costs = costs;
+  parents = parents;
+  view = record { real = vr; imaginary = vi };
+}
+
 -- what a value leaves: the chain, and whether there was a symbol
 pub record Step : Type 0 where
   pub state : ChainState
