@@ -6,6 +6,7 @@ use mathlib.Core.List.{List}
 use lib.IntN.{ℤ}
 use lib.Ieee.{Float}
 use Rattle.complex.specs.declared.Complex32.{Complex32}
+use Rattle.peak.specs.declared.KeeperPlace.{KeeperPlace}
 use Rattle.peak.specs.declared.Level.{Level}
 use Rattle.peak.specs.declared.Level.the-variants.{Filling, At}
 use Rattle.peak.specs.Peak as Peak
@@ -55,9 +56,9 @@ pub heard-is : (p : ChainPlace) (w : Windows) (reliable : Bool) (oldest : Soft) 
 unfolding heardOf
 heard-is p w reliable oldest weights channels costs parents view e clock c v r is-e is-clock is-c is-v is-r = rw (is-r, is-clock, is-v, is-c, is-e)
 
-pub attends : (s : ChainState) (p place : ChainPlace) → Ranged s → s .place .symbols < mostSymbols → place ≡ movedPlace (s .place) (p .keeper) (p .clock)
+pub attends : (s : ChainState) (keeper : KeeperPlace) (clock : ClockPlace) (place : ChainPlace) → Ranged s → s .place .symbols < mostSymbols → place ≡ movedPlace (s .place) keeper clock
     → Attends place (s .channels .real) (s .channels .imaginary) (s .costs) (s .parents)
-attends s p place h n e = rw e (record { carrier = h .carrier; view = h .view .head; symbols = n; locked = h .locked })
+attends s keeper clock place h n e = rw e (record { carrier = h .carrier; view = h .view .head; symbols = n; locked = h .locked })
 
 -- ---- a value's three ways
 module _ (taps derivatives : List Float) (s : ChainState) (z : Complex32) (oldest : Soft) (k : Peak.Run) (is-kept : k ≡ Peak.keptOf (s .place .keeper) z (s .keeper)) (place : ChainPlace) where

@@ -3,3 +3,4 @@ pub mod LabelLaws
 pub mod Chain
 pub mod Ranges
 pub mod Laws
+pub mod Kept
