@@ -1,6 +1,6 @@
 -- The admitted test as facts: it passes exactly where they hold. Assumes nothing.
 use mathlib.Core.Path.{_≡_, refl}
-use mathlib.Core.Bool.{Bool, true, false, _&&_, false≢true}
+use mathlib.Core.Bool.{Bool, true, _&&_}
 use mathlib.Core.List.{List}
 use Prim.Native.Nat.{ℕ, _*_, _^_, _≤_, _<_}
 use lib.Dec.{ltb, leb}
@@ -14,7 +14,6 @@ use Rattle.clock.specs.AdmittedLaws.{admitted-facts, facts-admitted}
 use Rattle.sequence.specs.Walk.{Table, Earlier}
 use Rattle.sequence.specs.declared.walk.Previous.{Previous}
 use Rattle.sequence.specs.declared.walk.Previous.the-variants.{Unknown, Symbol}
-use Rattle.carrier.specs.declared.CarrierPlace.{CarrierPlace}
 use Rattle.chain.specs.declared.ChainPlace.{ChainPlace}
 use Rattle.front.specs.declared.FrontPlace.{FrontPlace}
 use Rattle.receiver.specs.Admitted.{totalsFit, frontFits, symbolFits, detectorFits, chainFits, parentsFit, stateFits}

@@ -6,3 +6,6 @@ pub mod Admitted
 pub mod Largest
 pub mod AdmittedTests
 pub mod Fits
+pub mod Setup
+pub mod Reading
+pub mod Ways

@@ -1,19 +1,18 @@
 -- One pass over the samples serves both checks: a sample with a part that is not from -1 to 1 is loud; where none is, all are finite, and where all are finite the loud are the overloaded. Assumes nothing.
-use mathlib.Core.Path.{_≡_, refl, sym, ap, _∙_}
+use mathlib.Core.Path.{_≡_, refl, sym, _∙_}
 use mathlib.Core.Logic.{inl, inr}
-use mathlib.Core.Bool.{Bool, true, false, cond, not, _&&_, _||_, true≢false, false≢true}
+use mathlib.Core.Bool.{Bool, true, false, cond, not, _&&_, _||_, false≢true}
 use mathlib.Core.List.{List}
-use Prim.Native.Nat.{ℕ, zero, suc, _+_, _*_, _/_, _<_, _≤_}
+use Prim.Native.Nat.{ℕ, zero, suc, _+_, _*_, _<_}
 use native.Mathlib.Omega.{arith}
 use lib.Dec.{T, ltb, eqb}
-use lib.ListN.{length, getD}
 use lib.Ieee.{Float, nan, inf, fin, binary32, ofBits, neg, up, down, lt, eq, le}
 use borrow.Author.Tests.{lt-ltb, le-ltb, eq-eqb, ne-eqb}
 use Rattle.laws.specs.Turns.{turns}
 use Rattle.laws.specs.Ring.{lt-or-ge}
 use Rattle.numbers.specs.Numbers.{absOf, isFinite}
 use Rattle.receiver.specs.declared.samples.Level.{Level}
-use Rattle.receiver.specs.Samples.{countOf, realOf, imaginaryOf, finiteTurn, finiteOf, one, isAbove, overloadTurn, overloadOf, levelOf}
+use Rattle.receiver.specs.Samples.{countOf, realOf, imaginaryOf, finiteOf, one, isAbove, overloadOf, levelOf}
 
 unfoldable pub quietOf : Float → Bool
 quietOf x = le (ofBits binary32 0xbf800000) x && le x one

@@ -2,6 +2,8 @@
 // caller is checked, and answered by a refusal.
 
 pub mod admitted;
+pub mod reading;
 pub mod refusal;
 mod samples;
+pub mod setup;
 pub mod state;
