@@ -5,12 +5,13 @@ use Prim.Native.Nat.{ℕ, zero, suc, _+_, _*_, _≤_, _<_}
 use native.Mathlib.Omega.{arith}
 use native.Mathlib.Numerals.{add-one}
 use mathlib.Core.Bool.{Bool, true, false}
-use mathlib.Core.List.{List, [], _∷_, _++_, foldl, foldl-append, append-assoc}
+use mathlib.Core.List.{List, [], _∷_, _++_, foldl, foldl-append, append-assoc, append-nil}
 use lib.ListN.{length, length-append, set}
 use lib.Seq.{sets, length-sets}
 use lib.Ieee.{Float}
 use Rattle.laws.specs.Places.{upto, upto-more, length-upto}
 use Rattle.complex.specs.declared.Complex32.{Complex32}
+use Rattle.taps.specs.declared.Tables.{Tables}
 use Rattle.taps.specs.Taps.{bothTables}
 use Rattle.tracker.specs.Tracker.{pointAt}
 use Rattle.peak.specs.declared.Level.{Level}
@@ -192,3 +193,93 @@ module _ (taps derivatives : List Float) where
   pub ran-append : (xs ys : List Complex32) (t : Told) → ranOf taps derivatives (xs ++ ys) t ≡ ranOf taps derivatives ys (ranOf taps derivatives xs t)
   unfolding ranOf
   ran-append xs ys t = rw foldl-append
+
+-- what a row leaves keeps the ranges, and has told at most one dibit a value
+pub record Left (n : ℕ) (s : ChainState) (room : Room) (l : Lent) : Type 0 where
+  pub ranged : Ranged (l .state)
+  pub least : room .written ≤ l .room .written
+  pub most : l .room .written ≤ room .written + n
+  pub symbols : l .state .place .symbols + room .written ≡ s .place .symbols + l .room .written
+  pub dibits : length (l .room .dibits) ≡ length (room .dibits)
+  pub reliabilities : length (l .room .reliabilities) ≡ length (room .reliabilities)
+
+pub ran-left : (taps derivatives : List Float) (values : List Complex32) (s : ChainState) (records : List Slot) (room : Room) → Ranged s
+    → Left (length values) s room (laidOver room (ranOf taps derivatives values (start s records)))
+ran-left taps derivatives values s records room h =
+    let r = all-ran taps derivatives values (start s records) h in
+    let b = r .most in
+    let c = r .symbols in
+    record {
+      ranged = r .ranged;
+      least = omega arith;
+      most = omega arith;
+      symbols = omega arith;
+      dibits = length-sets (room .dibits) (room .written) (ranOf taps derivatives values (start s records) .dibits);
+      reliabilities = length-sets (room .reliabilities) (2 * room .written) (ranOf taps derivatives values (start s records) .reliabilities);
+    }
+
+pub values-length : (real imaginary : List Float) (n : ℕ) → length (valuesOf real imaginary n) ≡ n
+unfolding valuesOf
+values-length real imaginary n = length-upto (pointAt (record { real = real; imaginary = imaginary })) n
+
+pub row-left : (taps derivatives : List Float) (s : ChainState) (records : List Slot) (room : Room) (real imaginary : List Float) (n : ℕ) (l : Lent)
+    → l ≡ laidOver room (ranOf taps derivatives (valuesOf real imaginary n) (start s records)) → Ranged s
+    → (l ≡ laidOver room (ranOf taps derivatives (valuesOf real imaginary n) (start s records))) × Left n s room l
+row-left taps derivatives s records room real imaginary n l e h =
+    (e, subst (λ (l : Lent). Left n s room l) (sym e) (subst (λ (m : ℕ). Left m s room (laidOver room (ranOf taps derivatives (valuesOf real imaginary n) (start s records)))) (values-length real imaginary n) (ran-left taps derivatives (valuesOf real imaginary n) s records room h)))
+
+-- the same of the chain, with the matched filter's tables
+pub chain-is : (tables : Tables) (s : ChainState) (records : List Slot) (room : Room) (values : List Complex32) (l : Lent) → tables ≡ bothTables
+    → l ≡ laidOver room (ranOf (tables .taps) (tables .derivatives) values (start s records)) → l ≡ chainOf values s records room
+unfolding chainOf
+chain-is tables s records room values l e q = q ∙ ap (λ (t : Tables). laidOver room (ranOf (t .taps) (t .derivatives) values (start s records))) e
+
+pub chain-left : (values : List Complex32) (s : ChainState) (records : List Slot) (room : Room) → Ranged s → Left (length values) s room (chainOf values s records room)
+unfolding chainOf
+chain-left values s records room h = ran-left (bothTables .taps) (bothTables .derivatives) values s records room h
+
+-- ROWS IN TURN: the chain over one row and then another is the chain over both
+pub rows : (xs ys : List Complex32) (s : ChainState) (records : List Slot) (room : Room) → Ranged s
+    → chainOf ys (chainOf xs s records room .state) (chainOf xs s records room .records) (chainOf xs s records room .room) ≡ chainOf (xs ++ ys) s records room
+unfolding chainOf
+rows xs ys s records room h =
+    let taps = bothTables .taps in
+    let derivatives = bothTables .derivatives in
+    let t = ranOf taps derivatives xs (start s records) in
+    let u = ranOf taps derivatives ys (start (t .state) (t .records)) in
+    let p = all-ran taps derivatives xs (start s records) h .pairs in
+    let whole : ranOf taps derivatives (xs ++ ys) (start s records) ≡ prefixed taps derivatives (t .dibits) (t .reliabilities) u
+    = ran-append taps derivatives xs ys (start s records) ∙ ap (ranOf taps derivatives ys) (sym (prefixed-start t)) ∙ ran-prefixed taps derivatives ys (t .dibits) (t .reliabilities) (start (t .state) (t .records)) in
+    ap (λ (r : Room). record { state = u .state; records = u .records; room = r }) (laid-more room (t .dibits) (t .reliabilities) (u .dibits) (u .reliabilities) (omega arith))
+    ∙ ap (laidOver room) (sym whole)
+  where
+    prefixed-start : (t : Told) → _≡_ {A = Told} (record { state = t .state; records = t .records; dibits = t .dibits ++ []; reliabilities = t .reliabilities ++ [] }) t
+    prefixed-start t = rw (append-nil (t .dibits), append-nil (t .reliabilities))
+
+-- ---- one value, as the code takes it
+module _ (taps derivatives : List Float) (l : Lent) (z : Complex32) (oldest : Soft) (s : Step) (is-oldest : oldest ≡ recordBefore (l .records) (slotAt (l .state)))
+    (is-step : s ≡ steppedOf taps derivatives (l .state) z oldest) where
+  linked-is : (m : Lent) → m ≡ linkedWith taps derivatives l s → m ≡ linkedOf taps derivatives l z
+  unfolding linkedOf
+  linked-is m e = e ∙ ap (linkedWith taps derivatives l) (is-step ∙ ap (steppedOf taps derivatives (l .state) z) is-oldest)
+
+  pub linked-quiet : s .outcome ≡ Quiet → _≡_ {A = Lent} (record { state = s .state; records = l .records; room = l .room }) (linkedOf taps derivatives l z)
+  linked-quiet e = let n : l .room .written + 0 ≡ l .room .written = omega arith in linked-is _ (rw (e, n))
+
+  pub linked-heard : (soft : Soft) (answer : Answer) (room : Room) → s .outcome ≡ Heard soft answer → room ≡ laidIn (l .room) (answerDibits answer) (answerPair answer)
+      → _≡_ {A = Lent} (record { state = s .state; records = set (l .records) (slotAt (l .state)) (slotOf soft); room = room }) (linkedOf taps derivatives l z)
+  linked-heard soft answer room e r = linked-is _ (rw (e, r))
+
+-- ---- an answer written
+pub noted-silent : (room : Room) (a : Answer) → a ≡ Silent → room ≡ laidIn room (answerDibits a) (answerPair a)
+noted-silent room a e = let n : room .written + 0 ≡ room .written = omega arith in rw (e, n)
+
+pub noted-dibit : (room : Room) (a : Answer) (d h l : ℕ) → a ≡ Dibit d h l
+    → _≡_ {A = Room}
+    (record {
+      dibits = set (room .dibits) (room .written) d;
+      reliabilities = set (set (room .reliabilities) (2 * room .written) h) (2 * room .written + 1) l;
+      written = room .written + 1;
+    })
+    (laidIn room (answerDibits a) (answerPair a))
+noted-dibit room a d h l e = rw (e, add-one)

@@ -1,6 +1,7 @@
 // The chain: a row of resampled values to dibits, through peak keeper, clock, equalizer, carrier
 // with detector, and view.
 pub mod label;
+mod row;
 pub mod step;
 
 use carrier::CarrierPlace;
