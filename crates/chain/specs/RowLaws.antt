@@ -161,8 +161,8 @@ module _ (taps derivatives : List Float) where
         ∙ ap (laidOver room) (sym (ran-more real imaginary i (start s records)))
 
     -- the next value may be taken
-    pub row-asks : (i n : ℕ) (l : Lent) → Asks n (record { state = s; records = records; room = room }) → i < n → l ≡ laidOver room (toldAt i) → Asks 1 l
-    row-asks i n l a h e =
+    pub row-asks : (i n : ℕ) (l : Lent) → Asks n (record { state = s; records = records; room = room }) → l ≡ laidOver room (toldAt i) → i < n → Asks 1 l
+    row-asks i n l a e h =
         let r = ran-at i (a .state) in
         let b = r .most in
         let c = r .symbols in
