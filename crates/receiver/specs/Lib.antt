@@ -1,2 +1,11 @@
 pub mod Refusal
 pub mod State
+pub mod Samples
+pub mod Loud
+pub mod Admitted
+pub mod Largest
+pub mod AdmittedTests
+pub mod Fits
+pub mod Setup
+pub mod Reading
+pub mod Ways

@@ -1,16 +1,21 @@
--- The state of a refused setup, and what is shown of a state after a block. Definitions only.
+-- The state of a refused and of an accepted setup, and what is shown of a state after a block. Definitions only.
 use Prim.Native.Nat.{ℕ}
 use mathlib.Core.Bool.{Bool, false, cond}
 use mathlib.Core.List.{List}
-use lib.IntN.{pos}
+use lib.IntN.{ℤ, pos}
 use lib.ListN.{replicate}
 use lib.Ieee.{Float, binary32, binary64, ofBits, mul, div}
 use Rattle.signal.specs.declared.Observation.the-variants.{Absent}
 use Rattle.signal.specs.Signal as signal
 use Rattle.peak.specs.Peak as peak
 use Rattle.decimator.specs.Decimator as decimator
+use Rattle.oscillator.specs.Oscillator.{freshOscillator}
+use Rattle.resampler.specs.declared.dimensions.Dimensions.{Dimensions}
+use Rattle.resampler.specs.Dimensions as resampler
+use Rattle.equalizer.specs.Equalizer as equalizer
+use Rattle.sequence.specs.Sequence as sequence
+use Rattle.chain.specs.Chain as chain
 use Rattle.sequence.specs.declared.soft.Soft.the-variants.{Unrecorded}
-use Rattle.sequence.specs.declared.soft.Slot.{Slot}
 use Rattle.sequence.specs.declared.soft.Records.{Records}
 use Rattle.sequence.specs.declared.walk.Previous.the-variants.{Unknown}
 use Rattle.front.specs.declared.FrontPlace.{FrontPlace}
@@ -68,6 +73,33 @@ zeroReceiver = record {
   «weight_real» = zeroes 21;
   «weight_imaginary» = zeroes 21;
   «channel_real» = zeroes 256;
+  «channel_imaginary» = zeroes 256;
+  costs = zeroes 64;
+  parents = replicate 2048 0;
+  «view_real» = zeroes 1024;
+  «view_imaginary» = zeroes 1024;
+}
+
+-- ---- fresh
+
+abbrev pub freshFront : Float → Float → Dimensions → FrontPlace
+freshFront rate offset d = record { oscillator = freshOscillator rate offset; decimator = decimator.freshOf (d .decimation); resampler = resampler.freshOf d }
+
+unfoldable pub freshReceiver : FrontPlace → ℤ → Receiver
+freshReceiver front profile = record {
+  total = 0;
+  front = front;
+  chain = chain.freshPlace profile;
+  records = sequence.freshRecords;
+  «ring_real» = zeroes 592;
+  «ring_imaginary» = zeroes 592;
+  «keeper_real» = zeroes 64;
+  «keeper_imaginary» = zeroes 64;
+  «clock_real» = zeroes 256;
+  «clock_imaginary» = zeroes 256;
+  «weight_real» = equalizer.freshReal;
+  «weight_imaginary» = zeroes 21;
+  «channel_real» = sequence.freshReal;
   «channel_imaginary» = zeroes 256;
   costs = zeroes 64;
   parents = replicate 2048 0;

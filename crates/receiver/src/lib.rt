@@ -1,5 +1,9 @@
 // The receiver: setup, blocks of samples, and the reading of the constellation. What is asked of a
 // caller is checked, and answered by a refusal.
 
+pub mod admitted;
+pub mod reading;
 pub mod refusal;
+mod samples;
+pub mod setup;
 pub mod state;

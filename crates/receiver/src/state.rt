@@ -1,6 +1,7 @@
 // The whole state: small places by value, and the planes that a block lends to its steps.
 ghost use mathlib.Core.Path.{_≡_};
-ghost use Rattle.receiver.specs.State.{zeroFront, zeroChain, zeroReceiver, zeroSnapshot, flagOf, snapshotOf};
+ghost use Rattle.chain.specs.Chain.{freshPlace};
+ghost use Rattle.receiver.specs.State.{freshReceiver, zeroFront, zeroChain, zeroReceiver, zeroSnapshot, flagOf, snapshotOf};
 use carrier::CarrierPlace;
 use carrier::Loop;
 use chain::ChainPlace;
@@ -133,6 +134,53 @@ pub fn zero() -> Receiver
         weight_real: [0.0; 21],
         weight_imaginary: [0.0; 21],
         channel_real: [0.0; 256],
+        channel_imaginary: [0.0; 256],
+        costs: [0.0; 64],
+        parents: [0; 2048],
+        view_real: [0.0; 1024],
+        view_imaginary: [0.0; 1024],
+    }
+}
+
+fn fresh_chain(profile: i32) -> ChainPlace
+    ensures { λ r. ⌜ r ≡ freshPlace profile ⌝ }
+{
+    let keeper = peak::fresh();
+    let clock = clock::fresh();
+    let carrier = carrier::fresh();
+    let view = signal::fresh();
+    ChainPlace {
+        keeper,
+        clock,
+        carrier,
+        view,
+        profile,
+        symbols: 0,
+        locked: 0,
+    }
+}
+
+pub fn fresh(front: FrontPlace, profile: i32) -> Receiver
+    ensures { λ r. ⌜ r ≡ freshReceiver front profile ⌝ }
+{
+    let chain = fresh_chain(profile);
+    let records = sequence::step::fresh_records();
+    let weights = equalizer::fresh_real();
+    let channels = sequence::step::fresh_channels();
+    Receiver {
+        total: 0,
+        front,
+        chain,
+        records,
+        ring_real: [0.0; 592],
+        ring_imaginary: [0.0; 592],
+        keeper_real: [0.0; 64],
+        keeper_imaginary: [0.0; 64],
+        clock_real: [0.0; 256],
+        clock_imaginary: [0.0; 256],
+        weight_real: weights,
+        weight_imaginary: [0.0; 21],
+        channel_real: channels,
         channel_imaginary: [0.0; 256],
         costs: [0.0; 64],
         parents: [0; 2048],
