@@ -1,7 +1,12 @@
 // The entries of a script, each on the state and the table that stand on the desk.
 ghost use Prim.Native.Nat.{_<_, _≤_};
 ghost use lib.ListN.{length};
+use super::codec::decoded;
+use super::codec::encode;
+use super::codec::profile_of;
+use numbers::bits::float;
 use numbers::bits::float32;
+use receiver::refusal::number;
 use receiver::state::Snapshot;
 use replay::mixed;
 use replay::mixed_float;
@@ -116,6 +121,42 @@ fn fill_bytes(lent: &mut [u8], last: u8) {
 }
 
 // ---- setup and read
+
+fn set_up_in(e: Entry, words: &mut [u64; 6757], lent: &mut [f32]) -> u32 {
+    let profile = profile_of(e.third);
+    let s = receiver::setup::set_up(float(e.first), float(e.second), profile, lent);
+    let verdict = s.verdict;
+    let r = s.receiver;
+    encode(r, words);
+    number(verdict)
+}
+
+pub fn set_up(e: Entry, words: &mut [u64; 6757], table: &mut [f32]) {
+    fill_floats(&mut *table);
+    let room = e.fourth as usize;
+    if room <= table.len() {
+        let refusal = set_up_in(e, &mut *words, &mut table[..room]);
+        let answer = mixed(floats_digest(0, table), wide32(refusal));
+        print_answer(refusal, 0, answer, words);
+    }
+}
+
+fn read_in(words: &[u64; 6757], lent: &mut [f32]) {
+    fill_floats(&mut *lent);
+    let p = receiver::reading::read(decoded(words), &mut *lent);
+    let verdict = p.verdict;
+    let refusal = number(verdict);
+    let count = p.count as u64;
+    let h = mixed_float(mixed(mixed(0, wide32(refusal)), count), p.error);
+    print_answer(refusal, count, floats_digest(h, lent), words);
+}
+
+pub fn read(e: Entry, words: &[u64; 6757], floats: &mut [f32]) {
+    let room = e.first as usize;
+    if room <= floats.len() {
+        read_in(words, &mut floats[..room]);
+    }
+}
 
 // ---- blocks
 

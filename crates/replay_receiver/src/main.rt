@@ -20,11 +20,15 @@ fn answered(
         return false;
     }
     let e = desk::entry_of(&head);
-    if e.kind == 0 {} else if e.kind == 1 {
+    if e.kind == 0 {
+        desk::set_up(e, words, table);
+    } else if e.kind == 1 {
         if !desk::take_samples(e, input, samples) {
             return false;
         }
-    } else if e.kind == 2 {} else if e.kind == 3 {
+    } else if e.kind == 2 {
+        desk::read(e, words, samples);
+    } else if e.kind == 3 {
         desk::put_word(e, words);
     } else if e.kind == 4 {
         return desk::hand_in(e, input, words, table);
