@@ -9,3 +9,5 @@ pub mod Fits
 pub mod Setup
 pub mod Reading
 pub mod Ways
+pub mod Block
+pub mod BlockWays

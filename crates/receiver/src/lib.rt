@@ -2,6 +2,7 @@
 // caller is checked, and answered by a refusal.
 
 pub mod admitted;
+pub mod block;
 pub mod reading;
 pub mod refusal;
 mod samples;
