@@ -1,2 +1,5 @@
 pub mod Front
 pub mod Ready
+pub mod Runs
+pub mod Laws
+pub mod Draws
