@@ -1,8 +1,8 @@
 -- One law for each way out of a function: what the code leaves there is the definition. Assumes nothing.
-use Prim.Native.Nat.{ℕ, zero, suc, _+_, _-_, _*_, _^_, _≤_, _<_}
+use Prim.Native.Nat.{ℕ, zero, suc, _+_, _-_, _≤_}
 use native.Mathlib.Numerals.{add-one}
 use native.Mathlib.Omega.{arith}
-use mathlib.Core.Path.{_≡_, refl, sym, ap, _∙_, subst}
+use mathlib.Core.Path.{_≡_, refl, sym, ap, _∙_}
 use mathlib.Core.List.{List, [], _∷_}
 use lib.ListN.{length, set, take}
 use lib.Seq.{take-all}
@@ -12,12 +12,11 @@ use Rattle.decimator.specs.declared.Output.{Output}
 use Rattle.decimator.specs.declared.Output.the-variants.{Nothing, Value}
 use Rattle.resampler.specs.declared.pass.Resampler.{Resampler}
 use Rattle.resampler.specs.declared.pass.Passed.{Passed}
-use Rattle.resampler.specs.Front.{Heard, hearing, heard}
+use Rattle.resampler.specs.Front.{hearing, heard}
 use Rattle.resampler.specs.Pass.{Sampled, resampledOf, valuesOf}
 use Rattle.resampler.specs.Ready.{Kept}
 use Rattle.resampler.specs.Ready.{Ready as ReadyRing}
-use Rattle.front.specs.declared.Offering.{Offering}
-use Rattle.front.specs.Front.{Row, Offered, laidOf, offeredOf, offeredNow}
+use Rattle.front.specs.Front.{Row, Offered, laidOf, offeredOf}
 use Rattle.front.specs.Ready.{Offer}
 
 -- ---- values into the row

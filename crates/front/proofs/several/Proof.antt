@@ -1,7 +1,5 @@
 -- `front::several` meets its contract. Assumes nothing.
 use borrow.Author.Needs.{needs}
-use native.Mathlib.Nat.{min-le-left, min-le-right}
-use native.Mathlib.Omega.{arith}
 use Rattle.front.specs.Runs.{waits-is, whole-is}
 use Rattle.front.proofs.several.Statement.{statement}
 use Rattle.front.proofs.several.Tie as tie
