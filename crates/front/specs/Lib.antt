@@ -3,3 +3,4 @@ pub mod Ready
 pub mod Runs
 pub mod Laws
 pub mod Draws
+pub mod Steps
