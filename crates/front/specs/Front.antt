@@ -169,3 +169,7 @@ advancedWith table f q = record { rung = rungOf (q .oscillator) (q .decimator) (
 
 unfoldable pub advancedOf : Bool → List Float → List Float → Front → Front
 advancedOf conjugated table xs f = advancedWith table f (drawnOf conjugated xs (f .at) (length xs / 2 - f .at) (f .rung .place))
+
+-- ---- the first n values of a row, as a list
+unfoldable pub rowed : List Float → List Float → ℕ → List Complex32
+rowed real imaginary n = upto (λ k. record { real = getD real k nan; imaginary = getD imaginary k nan }) n

@@ -4,3 +4,4 @@ pub mod Runs
 pub mod Laws
 pub mod Draws
 pub mod Steps
+pub mod Rows
