@@ -1,7 +1,7 @@
 -- The checks of a block, by their ways out: what the code gives there is what the definition says. Assumes nothing.
-use mathlib.Core.Path.{_≡_, refl, sym, ap, _∙_}
+use mathlib.Core.Path.{_≡_, refl, sym, _∙_}
 use mathlib.Core.Logic.{inl, inr}
-use mathlib.Core.Bool.{Bool, true, false, cond, not, _||_, true≢false, false≢true}
+use mathlib.Core.Bool.{Bool, true, false, not, _||_, true≢false}
 use mathlib.Core.List.{List}
 use Prim.Native.Nat.{ℕ, _+_, _*_, _/_, _%_, _^_, _≤_, _<_}
 use native.Mathlib.Omega.{arith}
@@ -14,10 +14,10 @@ use Rattle.receiver.specs.declared.refusal.Verdict.the-variants.{Accepte
 use Rattle.receiver.specs.declared.state.Receiver.{Receiver}
 use Rattle.receiver.specs.declared.samples.Level.{Level}
 use Rattle.receiver.specs.declared.block.Checked.{Checked}
-use Rattle.receiver.specs.Samples.{countOf, finiteOf, overloadOf, levelOf}
+use Rattle.receiver.specs.Samples.{countOf, finiteOf, levelOf}
 use Rattle.receiver.specs.Admitted.{admittedOf}
 use Rattle.receiver.specs.Fits.{fits-from}
-use Rattle.receiver.specs.Block.{countRefused, roomRefused, laterChecks, blockChecks, refusedBy, judgedNow, judgedBy, laterOf, judgedOf}
+use Rattle.receiver.specs.Block.{countRefused, roomRefused, refusedBy, judgedNow, laterOf, judgedOf}
 
 -- ---- how many
 pub count-many : (total floats : ℕ) → 65536 < floats / 2 → true ≡ countRefused total floats

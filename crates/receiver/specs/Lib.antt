@@ -11,3 +11,6 @@ pub mod Reading
 pub mod Ways
 pub mod Block
 pub mod BlockWays
+pub mod Run
+pub mod RunLaws
+pub mod BlockLaws
