@@ -14,3 +14,4 @@ pub mod BlockWays
 pub mod Run
 pub mod RunLaws
 pub mod BlockLaws
+pub mod Laws
