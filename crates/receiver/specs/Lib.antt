@@ -9,3 +9,9 @@ pub mod Fits
 pub mod Setup
 pub mod Reading
 pub mod Ways
+pub mod Block
+pub mod BlockWays
+pub mod Run
+pub mod RunLaws
+pub mod BlockLaws
+pub mod Laws

@@ -2,8 +2,10 @@
 // caller is checked, and answered by a refusal.
 
 pub mod admitted;
+pub mod block;
 pub mod reading;
 pub mod refusal;
+mod run;
 mod samples;
 pub mod setup;
 pub mod state;

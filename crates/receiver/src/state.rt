@@ -1,6 +1,5 @@
 // The whole state: small places by value, and the planes that a block lends to its steps.
 ghost use mathlib.Core.Path.{_≡_};
-ghost use Rattle.chain.specs.Chain.{freshPlace};
 ghost use Rattle.receiver.specs.State.{freshReceiver, zeroFront, zeroChain, zeroReceiver, zeroSnapshot, flagOf, snapshotOf};
 use carrier::CarrierPlace;
 use carrier::Loop;
@@ -142,28 +141,10 @@ pub fn zero() -> Receiver
     }
 }
 
-fn fresh_chain(profile: i32) -> ChainPlace
-    ensures { λ r. ⌜ r ≡ freshPlace profile ⌝ }
-{
-    let keeper = peak::fresh();
-    let clock = clock::fresh();
-    let carrier = carrier::fresh();
-    let view = signal::fresh();
-    ChainPlace {
-        keeper,
-        clock,
-        carrier,
-        view,
-        profile,
-        symbols: 0,
-        locked: 0,
-    }
-}
-
 pub fn fresh(front: FrontPlace, profile: i32) -> Receiver
     ensures { λ r. ⌜ r ≡ freshReceiver front profile ⌝ }
 {
-    let chain = fresh_chain(profile);
+    let chain = chain::fresh(profile);
     let records = sequence::step::fresh_records();
     let weights = equalizer::fresh_real();
     let channels = sequence::step::fresh_channels();

@@ -5,8 +5,8 @@ use borrow.Author.Needs.{needs}
 use Rattle.receiver.proofs.state.fresh.Statement.{statement}
 use Rattle.receiver.proofs.state.fresh.Tie as tie
 
-fresh-chain-requires : tie.Need-fresh-chain-requires
-fresh-chain-requires c κs = search needs
+fresh-requires : tie.Need-fresh-requires
+fresh-requires c κs = search needs
 
 fresh-records-requires : tie.Need-fresh-records-requires
 fresh-records-requires c κs = search needs
@@ -19,13 +19,13 @@ fresh-channels-requires c κs = search needs
 
 returns : tie.Need-returns
 unfolding freshReceiver ofBits
-returns c = rw (c .fresh-channels .ensures, c .before .fresh-real .ensures, c .before .before .fresh-records .ensures, c .before .before .before .fresh-chain .ensures, toZ-ofZ (c .before .before .before .before .fits .profile))
+returns c = rw (c .fresh-channels .ensures, c .before .fresh-real .ensures, c .before .before .fresh-records .ensures, c .before .before .before .fresh .ensures, toZ-ofZ (c .before .before .before .before .fits .profile))
 
 pub fresh-spec : {M : Type 1} → statement M
 fresh-spec =
     tie.close
     (tie.spec
-    fresh-chain-requires
+    fresh-requires
     fresh-records-requires
     fresh-real-requires
     fresh-channels-requires
