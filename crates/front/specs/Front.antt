@@ -2,7 +2,7 @@
 use Prim.Native.Nat.{ℕ, _+_, _-_, _*_, _/_}
 use Prim.Native.Nat as Nat
 use mathlib.Core.Bool.{Bool}
-use mathlib.Core.List.{List, _++_, map, foldl}
+use mathlib.Core.List.{List, [], _++_, map, foldl}
 use lib.Dec.{ltb}
 use lib.ListN.{length, getD}
 use lib.Seq.{sets}
@@ -173,3 +173,10 @@ advancedOf conjugated table xs f = advancedWith table f (drawnOf conjugated xs (
 -- ---- the first n values of a row, as a list
 unfoldable pub rowed : List Float → List Float → ℕ → List Complex32
 rowed real imaginary n = upto (λ k. record { real = getD real k nan; imaginary = getD imaginary k nan }) n
+
+-- ---- the values that the k samples from sample n on make
+abbrev pub rungAt : Bool → List Float → List Float → ℕ → Rung → Rung
+rungAt conjugated table xs n r = frontOf conjugated table xs n (record { rung = r; values = [] }) .rung
+
+unfoldable pub madeOf : Bool → List Float → List Float → ℕ → ℕ → Rung → List Complex32
+madeOf conjugated table xs n k r = turns (λ i vs. vs ++ frontStep conjugated table (rungAt conjugated table xs (n + i) r) (sampleAt xs (n + i)) .values) k []
