@@ -1,6 +1,6 @@
 -- Forgetting, end to end. Two fronts of one rate, with the same oscillator and counts, may hold anything in their integrators, combs and rings: once as many samples have come as the filters reach back, both make the same
 -- values of what comes. The reach is (c + 3) d samples, counted from the last output before the first of them, and c where d = 1. Assumes nothing.
-use Prim.Native.Nat.{ℕ, zero, suc, _+_, _-_, _*_, _/_, _%_, _≤_, _<_}
+use Prim.Native.Nat.{ℕ, zero, suc, _+_, _-_, _*_, _%_, _≤_, _<_}
 use native.Mathlib.Nat.{add-mul, one-mul, mul-le-mul-right, le-of-mul-le-mul-right}
 use native.Mathlib.Numerals.{add-one}
 use native.Mathlib.Omega.{arith}
@@ -10,7 +10,7 @@ use mathlib.Core.Bool.{Bool, cond}
 use mathlib.Core.List.{List, [], _∷_, _++_, append-assoc, append-nil, map}
 use lib.Dec.{ltb, eqb}
 use lib.ListN.{length, getD, length-map, List·getD-map}
-use lib.Ieee.{Float, nan}
+use lib.Ieee.{Float}
 use borrow.Author.Tests.{lt-ltb, le-ltb}
 use Rattle.laws.specs.Turns.{turns}
 use Rattle.laws.specs.Places.{upto, length-upto}
@@ -32,10 +32,10 @@ use Rattle.decimator.specs.Part.{Words}
 use Rattle.decimator.specs.Theorem.{recovers}
 use Rattle.decimator.specs.Values.{step-above, step-through, step-ready, outputs-above}
 use Rattle.decimator.specs.Values.{Ready as ReadyBy}
-use Rattle.resampler.specs.declared.pass.Resampler.{Resampler}
 use Rattle.resampler.specs.Front.{Heard, hearing, heard}
-use Rattle.resampler.specs.Forgets.{Planes, Like, like-other, like-more, heard-same}
-use Rattle.front.specs.Front.{sampleAt, Rung, Run, ringOf, stepOf, frontStep, more, frontTurn, frontOf, rungAt, madeOf}
+use Rattle.resampler.specs.Pass.{resampledOf}
+use Rattle.resampler.specs.Forgets.{Like, like-other, like-more, heard-same}
+use Rattle.front.specs.Front.{sampleAt, Rung, Run, ringOf, frontStep, more, frontOf, rungAt, madeOf, reachOf}
 use Rattle.front.specs.Ready.{Ready}
 
 -- ---- a decimator: when it sounds, and its counter
@@ -185,3 +185,268 @@ module _ (conjugated : Bool) (table xs : List Float) where
   walk-values : (r : Rung) (n : ℕ) → frontStep conjugated table (walk r n) (sampleAt xs n) .values ≡ heard table (ringOf (walk r n)) (outputAt r n)
   unfolding frontStep
   walk-values r n = λ i. heard table (ringOf (walk r n)) (steppedOf (walk-dec r n i) (mixedOf (walk-osc r n i) (sampleAt xs n) conjugated) .output)
+
+-- ---- two fronts of one rate, with the same oscillator and counts; what they hold may differ
+pub record Alike (a b : Rung) : Type 0 where
+  pub oscillator : a .place .oscillator ≡ b .place .oscillator
+  pub decimation : a .place .decimator .decimation ≡ b .place .decimator .decimation
+  pub counter : a .place .decimator .counter ≡ b .place .decimator .counter
+  pub resampler : a .place .resampler ≡ b .place .resampler
+  pub ready : Ready (a .place)
+  pub real-a : a .place .resampler .arm + 16 ≤ length (a .real)
+  pub imaginary-a : a .place .resampler .arm + 16 ≤ length (a .imaginary)
+  pub real-b : a .place .resampler .arm + 16 ≤ length (b .real)
+  pub imaginary-b : a .place .resampler .arm + 16 ≤ length (b .imaginary)
+  -- integrators are 64-bit words
+  pub words-real-a : Words (a .place .decimator .integrators .real)
+  pub words-imaginary-a : Words (a .place .decimator .integrators .imaginary)
+  pub words-real-b : Words (b .place .decimator .integrators .real)
+  pub words-imaginary-b : Words (b .place .decimator .integrators .imaginary)
+
+one-value : (o p : Output) (v w : Complex32) → o ≡ Value v → p ≡ Value w → o ≡ p → v ≡ w
+one-value o p v w e f s = cc
+
+arm-kept : (table : List Float) (h : Heard) (o : Output) → hearing table h o .resampler .arm ≡ h .resampler .arm
+unfolding hearing
+arm-kept table h Nothing = refl
+arm-kept table h (Value v) = unfold resampledOf in refl
+
+hears-nothing : (table : List Float) (h : Heard) (o : Output) → o ≡ Nothing → hearing table h o ≡ h
+unfolding hearing
+hears-nothing table h o e = ap (hearing table h) e
+
+heard-nothing : (table : List Float) (h : Heard) (o : Output) → o ≡ Nothing → heard table h o ≡ []
+unfolding heard
+heard-nothing table h o e = ap (heard table h) e
+
+like-of : (k : ℕ) (a b c d : Heard) → a ≡ c → b ≡ d → Like k c d → Like k a b
+like-of k a b c d e f l = subst (λ (h : Heard). Like k h b) (sym e) (subst (λ (h : Heard). Like k c h) (sym f) l)
+
+module _ (conjugated : Bool) (table xs : List Float) (a b : Rung) (l : Alike a b) where
+  abbrev d : ℕ
+  d = a .place .decimator .decimation
+
+  abbrev c : ℕ
+  c = a .place .resampler .arm
+
+  abbrev since : ℕ
+  since = a .place .decimator .counter
+
+  abbrev ra : ℕ → Heard
+  ra n = ringOf (walk conjugated table xs a n)
+
+  abbrev rb : ℕ → Heard
+  rb n = ringOf (walk conjugated table xs b n)
+
+  abbrev oa : ℕ → Output
+  oa n = outputAt conjugated table xs a n
+
+  abbrev ob : ℕ → Output
+  ob n = outputAt conjugated table xs b n
+
+  abbrev da : ℕ → Decimator
+  da n = decAt (mixAt conjugated table xs (a .place .oscillator)) (a .place .decimator) n
+
+  abbrev db : ℕ → Decimator
+  db n = decAt (mixAt conjugated table xs (b .place .oscillator)) (b .place .decimator) n
+
+  ready-a : (n : ℕ) → ReadyBy d (da n)
+  ready-a n = ready-at (mixAt conjugated table xs (a .place .oscillator)) d (a .place .decimator) n (record { by = refl; early = l .ready .early })
+
+  ready-b : (n : ℕ) → ReadyBy d (db n)
+  ready-b n =
+      let e = l .decimation in
+      let f = l .counter in
+      let k = l .ready .early in
+      ready-at (mixAt conjugated table xs (b .place .oscillator)) d (b .place .decimator) n (record { by = sym e; early = omega arith })
+
+  -- m outputs are not to be trusted
+  module _ (m : ℕ) (trusted : (n : ℕ) → (m + 1) * d ≤ since + n + 1 → oa n ≡ ob n) where
+    -- after n samples, q outputs of the decimators among them
+    record Apart (n q : ℕ) : Type 0 where
+      counts : since + n ≡ q * d + da n .counter
+      counter : da n .counter ≡ db n .counter
+      armed : ra n .resampler .arm ≡ c
+      start : Like 0 (ra n) (rb n)
+      near : (k : ℕ) → k ≤ c → k + m ≤ q → Like k (ra n) (rb n)
+
+    begin : Apart 0 0
+    unfolding walk decAt latest upto
+    begin =
+        let z : Like 0 (ringOf a) (ringOf b) = record {
+          same = l .resampler;
+          planes = record { inside = l .ready .ring .write-in; room-xs = l .real-a; room-ys = l .imaginary-a; room-us = l .real-b; room-vs = l .imaginary-b; real-same = refl; imaginary-same = refl };
+        } in
+        record {
+          counts = omega arith;
+          counter = l .counter;
+          armed = refl;
+          start = z;
+          near = λ k h g. subst (λ (j : ℕ). Like j (ringOf a) (ringOf b)) (let e : 0 ≡ k = omega arith in e) z;
+        }
+
+    quietly : (n q : ℕ) → Apart n q → da n .counter + 1 < d → Apart (suc n) q
+    unfolding decAt
+    quietly n q p s =
+        let u = ready-a n .by in
+        let v = ready-b n .by in
+        let e = p .counter in
+        let x = is-quiet (da n) (mixAt conjugated table xs (a .place .oscillator) n) (omega arith) in
+        let y = is-quiet (db n) (mixAt conjugated table xs (b .place .oscillator) n) (omega arith) in
+        let f = walk-ring conjugated table xs a n ∙ hears-nothing table (ra n) (oa n) (x .silent) in
+        let g = walk-ring conjugated table xs b n ∙ hears-nothing table (rb n) (ob n) (y .silent) in
+        let t = p .counts in
+        record {
+          counts = (let h : since + suc n ≡ q * d + (da n .counter + 1) = omega arith in h) ∙ ap (λ (j : ℕ). q * d + j) (sym (x .later));
+          counter = x .later ∙ ap (λ (j : ℕ). j + 1) e ∙ sym (y .later);
+          armed = ap (λ (h : Heard). h .resampler .arm) f ∙ p .armed;
+          start = like-of 0 (ra (suc n)) (rb (suc n)) (ra n) (rb n) f g (p .start);
+          near = λ k h i. like-of k (ra (suc n)) (rb (suc n)) (ra n) (rb n) f g (p .near k h i);
+        }
+
+    -- at an output
+    module _ (n q : ℕ) (p : Apart n q) (s : d ≤ da n .counter + 1) where
+      whole : since + n + 1 ≡ (q + 1) * d
+      whole =
+          let t = p .counts in
+          let u = ready-a n .early in
+          let e : (q + 1) * d ≡ q * d + d = add-mul q 1 d ∙ ap (λ (j : ℕ). q * d + j) (one-mul d) in
+          omega arith
+
+      loud-a : Loud (da n) (mixAt conjugated table xs (a .place .oscillator) n)
+      loud-a =
+          let u = ready-a n .by in
+          let v = ready-a n .early in
+          is-loud (da n) (mixAt conjugated table xs (a .place .oscillator) n) (omega arith) (omega arith)
+
+      loud-b : Loud (db n) (mixAt conjugated table xs (b .place .oscillator) n)
+      loud-b =
+          let u = ready-b n .by in
+          let v = ready-b n .early in
+          let e = p .counter in
+          is-loud (db n) (mixAt conjugated table xs (b .place .oscillator) n) (omega arith) (omega arith)
+
+      abbrev va : Complex32
+      va = loud-a .value
+
+      abbrev vb : Complex32
+      vb = loud-b .value
+
+      same-value : m ≤ q → va ≡ vb
+      same-value h = one-value (oa n) (ob n) va vb (loud-a .sounds) (loud-b .sounds) (trusted n (subst (λ (j : ℕ). (m + 1) * d ≤ j) (sym whole) (mul-le-mul-right d (let g : m + 1 ≤ q + 1 = omega arith in g))))
+
+      heard-a : ra (suc n) ≡ hearing table (ra n) (Value va)
+      heard-a = walk-ring conjugated table xs a n ∙ ap (hearing table (ra n)) (loud-a .sounds)
+
+      heard-b : rb (suc n) ≡ hearing table (rb n) (Value vb)
+      heard-b = walk-ring conjugated table xs b n ∙ ap (hearing table (rb n)) (loud-b .sounds)
+
+      first : Like 0 (ra (suc n)) (rb (suc n))
+      first = like-of 0 (ra (suc n)) (rb (suc n)) (hearing table (ra n) (Value va)) (hearing table (rb n) (Value vb)) heard-a heard-b (like-other table 0 (ra n) (rb n) (p .start) va vb)
+
+      closer : (k : ℕ) → k ≤ c → k + m ≤ q + 1 → Like k (ra (suc n)) (rb (suc n))
+      closer zero h i = first
+      closer (suc k) h i =
+          let e = p .armed in
+          subst (λ (j : ℕ). Like j (ra (suc n)) (rb (suc n))) (add-one k)
+          (like-of (k + 1) (ra (suc n)) (rb (suc n)) (hearing table (ra n) (Value va)) (hearing table (rb n) (Value vb)) heard-a heard-b
+          (like-more table k (ra n) (rb n) (p .near k (omega arith) (omega arith)) va vb (omega arith) (same-value (omega arith))))
+
+      loudly : Apart (suc n) (q + 1)
+      unfolding decAt
+      loudly = record {
+        counts = (let t = whole in let h : since + suc n ≡ (q + 1) * d + 0 = omega arith in h) ∙ ap (λ (j : ℕ). (q + 1) * d + j) (sym (loud-a .anew));
+        counter = loud-a .anew ∙ sym (loud-b .anew);
+        armed = ap (λ (h : Heard). h .resampler .arm) heard-a ∙ arm-kept table (ra n) (Value va) ∙ p .armed;
+        start = first;
+        near = closer;
+      }
+
+      -- the values that sample n makes, once the whole window is trusted
+      values-loud : (c + m) * d ≤ since + n + 1 → heard table (ra n) (oa n) ≡ heard table (rb n) (ob n)
+      values-loud h =
+          let e = p .armed in
+          let w = l .ready .ring .arm-low in
+          let g : c + m ≤ q + 1 = le-of-mul-le-mul-right (subst (λ (j : ℕ). (c + m) * d ≤ j) whole h) (let u = l .ready .early in let v : 0 < d = omega arith in v) in
+          ap (heard table (ra n)) (loud-a .sounds)
+          ∙ heard-same table (c - 1) (ra n) (rb n) (p .near (c - 1) (omega arith) (omega arith)) va vb (omega arith) (same-value (omega arith)) (omega arith)
+          ∙ sym (ap (heard table (rb n)) (loud-b .sounds))
+
+    apart : (n : ℕ) → (q : ℕ) × Apart n q
+    apart zero = (0, begin)
+    apart (suc n) =
+        let p = apart n in
+        ⊎-elim (λ s. (p .0, quietly n (p .0) (p .1) s)) (λ s. (p .0 + 1, loudly n (p .0) (p .1) s)) (lt-or-ge (da n .counter + 1) d)
+
+    heard-alike : (n : ℕ) → (c + m) * d ≤ since + n + 1 → heard table (ra n) (oa n) ≡ heard table (rb n) (ob n)
+    heard-alike n h =
+        let p = apart n in
+        ⊎-elim
+        (λ s.
+        let u = ready-a n .by in
+        let v = ready-b n .by in
+        let e = p .1 .counter in
+        heard-nothing table (ra n) (oa n) (is-quiet (da n) (mixAt conjugated table xs (a .place .oscillator) n) (omega arith) .silent)
+        ∙ sym (heard-nothing table (rb n) (ob n) (is-quiet (db n) (mixAt conjugated table xs (b .place .oscillator) n) (omega arith) .silent)))
+        (λ s. values-loud n (p .0) (p .1) s h)
+        (lt-or-ge (da n .counter + 1) d)
+
+  -- b's decimator, with a's oscillator
+  turned-alike : (n : ℕ) → steppedOf (decAt (mixAt conjugated table xs (a .place .oscillator)) (b .place .decimator) n) (mixAt conjugated table xs (a .place .oscillator) n) .output ≡ ob n
+  turned-alike n = λ i. steppedOf (decAt (mixAt conjugated table xs (l .oscillator i)) (b .place .decimator) n) (mixAt conjugated table xs (l .oscillator i) n) .output
+
+  trusted-above : 1 < d → (n : ℕ) → (3 + 1) * d ≤ since + n + 1 → oa n ≡ ob n
+  trusted-above D n h =
+      same-above (mixAt conjugated table xs (a .place .oscillator)) (a .place .decimator) (b .place .decimator) (l .decimation) (l .counter) (l .ready .early) n
+      (l .words-real-a) (l .words-imaginary-a) (l .words-real-b) (l .words-imaginary-b) D h
+      ∙ turned-alike n
+
+  trusted-through : d ≤ 1 → (n : ℕ) → (0 + 1) * d ≤ since + n + 1 → oa n ≡ ob n
+  trusted-through D n h =
+      let u = ready-a n .by in
+      let v = ready-b n .by in
+      let z = mixAt conjugated table xs (a .place .oscillator) n in
+      ap (λ (s : Step). s .output) (step-through (da n) z (omega arith))
+      ∙ ap (λ (o : Oscillator). Value (mixAt conjugated table xs o n)) (l .oscillator)
+      ∙ sym (ap (λ (s : Step). s .output) (step-through (db n) (mixAt conjugated table xs (b .place .oscillator) n) (omega arith)))
+
+  -- THE THEOREM, for one sample
+  values-alike : (n : ℕ) → reachOf (a .place) ≤ since + n + 1 → frontStep conjugated table (walk conjugated table xs a n) (sampleAt xs n) .values ≡ frontStep conjugated table (walk conjugated table xs b n) (sampleAt xs n) .values
+  values-alike n h =
+      walk-values conjugated table xs a n
+      ∙ ⊎-elim
+      (λ D. heard-alike 3 (trusted-above D) n (subst (λ (t : Bool). cond t ((c + 3) * d) c ≤ since + n + 1) (lt-ltb 1 d D) h))
+      (λ D.
+      let k : c ≤ since + n + 1 = subst (λ (t : Bool). cond t ((c + 3) * d) c ≤ since + n + 1) (le-ltb 1 d D) h in
+      let e : d ≡ 1 = (let u = l .ready .early in let g : d ≡ 1 = omega arith in g) in
+      let g : (c + 0) * d ≡ c = ap (λ (j : ℕ). (c + 0) * j) e ∙ (let w : (c + 0) * 1 ≡ c = omega arith in w) in
+      heard-alike 0 (trusted-through D) n (subst (λ (j : ℕ). j ≤ since + n + 1) (sym g) k))
+      (lt-or-ge 1 d)
+      ∙ sym (walk-values conjugated table xs b n)
+
+  -- THE THEOREM: once n samples have come, n and the samples since the last output before them being no fewer than the filters reach back, both fronts make the same values of all that comes
+  pub front-forgets : (n k : ℕ) → reachOf (a .place) ≤ since + n + 1 → madeOf conjugated table xs n k a ≡ madeOf conjugated table xs n k b
+  unfolding madeOf turns
+  front-forgets n zero h = refl
+  front-forgets n (suc k) h =
+      let e = walk-is conjugated table xs (record { rung = a; values = [] }) (n + k) in
+      let f = walk-is conjugated table xs (record { rung = b; values = [] }) (n + k) in
+      let v : frontStep conjugated table (rungAt conjugated table xs (n + k) a) (sampleAt xs (n + k)) .values ≡ frontStep conjugated table (rungAt conjugated table xs (n + k) b) (sampleAt xs (n + k)) .values =
+      ap (λ (r : Rung). frontStep conjugated table r (sampleAt xs (n + k)) .values) e
+      ∙ values-alike (n + k) (omega arith)
+      ∙ sym (ap (λ (r : Rung). frontStep conjugated table r (sampleAt xs (n + k)) .values) f) in
+      λ i. front-forgets n k h i ++ v i
+
+-- those values are what the fold appends
+pub values-after : (conjugated : Bool) (table xs : List Float) (n k : ℕ) (h : Run) → frontOf conjugated table xs (n + k) h .values ≡ frontOf conjugated table xs n h .values ++ madeOf conjugated table xs n k (h .rung)
+unfolding madeOf turns
+values-after conjugated table xs n zero h = ap (λ (j : ℕ). frontOf conjugated table xs j h .values) (let e : n + 0 ≡ n = omega arith in e) ∙ sym (append-nil (frontOf conjugated table xs n h .values))
+values-after conjugated table xs n (suc k) h =
+    let r = walk-is conjugated table xs h (n + k) ∙ sym (walk-is conjugated table xs (record { rung = h .rung; values = [] }) (n + k)) in
+    ap (λ (j : ℕ). frontOf conjugated table xs j h .values) (let e : n + suc k ≡ suc (n + k) = omega arith in e)
+    ∙ one-more (n + k)
+    ∙ (λ i. values-after conjugated table xs n k h i ++ frontStep conjugated table (r i) (sampleAt xs (n + k)) .values)
+    ∙ append-assoc (frontOf conjugated table xs n h .values) (madeOf conjugated table xs n k (h .rung)) (frontStep conjugated table (rungAt conjugated table xs (n + k) (h .rung)) (sampleAt xs (n + k)) .values)
+  where
+    one-more : (j : ℕ) → frontOf conjugated table xs (suc j) h .values ≡ frontOf conjugated table xs j h .values ++ frontStep conjugated table (frontOf conjugated table xs j h .rung) (sampleAt xs j) .values
+    one-more j = unfold frontOf turns more in refl

@@ -1,10 +1,9 @@
 -- What a sample keeps of a front, on the definitions: it stays ready, and makes at most two values. Assumes nothing.
 use Prim.Native.Nat.{ℕ, zero, suc, _+_, _*_, _/_, _^_, _≤_, _<_}
-use native.Mathlib.Nat.{mul-add}
 use native.Mathlib.Omega.{arith}
-use mathlib.Core.Path.{_≡_, refl, sym, ap, _∙_, subst}
+use mathlib.Core.Path.{_≡_, refl, sym, ap, _∙_}
 use mathlib.Core.Bool.{Bool}
-use mathlib.Core.List.{List, [], _∷_, _++_, foldl, foldl-append}
+use mathlib.Core.List.{List, _++_, foldl, foldl-append}
 use lib.Dec.{T}
 use lib.ListN.{length, getD, set, length-set, length-append}
 use lib.Ieee.{Float, binary64, fits}
@@ -16,10 +15,8 @@ use Rattle.oscillator.specs.Laws.{turned-below}
 use Rattle.decimator.specs.declared.Output.{Output}
 use Rattle.decimator.specs.declared.Output.the-variants.{Nothing, Value}
 use Rattle.decimator.specs.Values.{step-ready}
-use Rattle.decimator.specs.Values.{Ready as ReadyBy}
-use Rattle.resampler.specs.declared.pass.Resampler.{Resampler}
 use Rattle.resampler.specs.Front.{Heard, hearing, heard}
-use Rattle.resampler.specs.Pass.{pushedOf, passedOf, deliveredOf, resampledOf, valuesOf}
+use Rattle.resampler.specs.Pass.{resampledOf}
 use Rattle.resampler.specs.Ready.{ready-again, next-stored}
 use Rattle.resampler.specs.Ready.{Ready as ReadyRing}
 use Rattle.front.specs.declared.FrontPlace.{FrontPlace}
