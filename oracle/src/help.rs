@@ -57,6 +57,9 @@ const AFTER_STAGES: &str = "
       place after it and of a sample's windows
   oscillator inputs > LIST | oscillator answers < LIST
       runs of the mixer; a line per run, the digest of its samples and oscillators
+  front inputs > LIST | front answers < LIST
+      runs of blocks through mixer, decimator and resampler; a line per run, the digest of its values
+      and its last state
   tables source | tables bits
       crates/taps/src/table.rt and crates/taps/specs/TapBits.antt, as oracle/check-tables wants them
 

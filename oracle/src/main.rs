@@ -28,6 +28,7 @@ mod chosen;
 mod clock_list;
 mod equalizer_list;
 mod decimator_list;
+mod front_list;
 mod generator;
 mod help;
 mod helpers;
@@ -85,6 +86,7 @@ fn run(words: &[&str]) -> Outcome {
         ["oscillator", rest @ ..] => oscillator_list::run(rest),
         ["tables", rest @ ..] => tables::run(rest),
         ["resampler", rest @ ..] => resampler_list::run(rest),
+        ["front", rest @ ..] => front_list::run(rest),
         ["taps", rest @ ..] => taps::run(rest),
         ["selftest", rest @ ..] => selftest::run(rest),
         _ => Err("no such subcommand; oracle/run help lists them".into()),

@@ -96,7 +96,7 @@ pub fn traced(d: &mut Demodulator, samples: &[Complex32], print: &mut Print) -> 
 }
 
 /// A sample turned by the oscillator, which then turns itself.
-fn mixed(d: &mut Demodulator, sample: Complex32) -> Complex32 {
+pub fn mixed(d: &mut Demodulator, sample: Complex32) -> Complex32 {
     let (x, y) = (sample.real as f64, sample.imaginary as f64);
     let (c, s) = (d.oscillator_real, d.oscillator_imaginary);
     let (real, imaginary) = (x * c - y * s, x * s + y * c);
