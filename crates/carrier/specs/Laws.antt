@@ -1,5 +1,5 @@
 -- A step's answer put together from its parts, and the alternation's range. Assumes nothing.
-use Prim.Native.Nat.{ℕ, _+_, _%_, _≤_}
+use Prim.Native.Nat.{ℕ, _+_, _≤_}
 use native.Mathlib.Nat.{mod-lt}
 use native.Mathlib.Omega.{arith}
 use mathlib.Core.Path.{_≡_, refl, ap, _∙_}
@@ -13,7 +13,6 @@ use Rattle.sequence.specs.Sequence as Sequence
 use Rattle.sequence.specs.Steps.{detected-ranged}
 use Rattle.carrier.specs.declared.Loop.{Loop}
 use Rattle.carrier.specs.declared.CarrierPlace.{CarrierPlace}
-use Rattle.carrier.specs.declared.Carried.{Carried}
 use Rattle.carrier.specs.Carrier.{Run, correctedOf, turnedOf, carriedWith, carriedOf}
 use Rattle.carrier.specs.Ranges.{Ranged}
 

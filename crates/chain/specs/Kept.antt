@@ -1,9 +1,9 @@
 -- Admitted in, admitted out: every step keeps the chain's ranges, and counts at most one symbol. Assumes nothing.
 use mathlib.Core.Path.{_≡_, refl, sym, ap, subst}
-use Prim.Native.Nat.{ℕ, _+_, _%_, _≤_, _<_, min}
+use Prim.Native.Nat.{_+_, _%_, _≤_, min}
 use native.Mathlib.Nat.{mod-lt}
 use native.Mathlib.Omega.{arith}
-use mathlib.Core.Bool.{Bool, true, false, cond, not, _&&_}
+use mathlib.Core.Bool.{Bool, true, false, cond, not}
 use mathlib.Core.List.{List}
 use lib.Dec.{T, ltb}
 use lib.ListN.{length, length-set}
@@ -29,8 +29,7 @@ use Rattle.carrier.specs.Carrier as Carrier
 use Rattle.carrier.specs.Ranges as Carried
 use Rattle.carrier.specs.Laws.{carried-ranged}
 use Rattle.signal.specs.Signal as Signal
-use Rattle.chain.specs.Labels.{countedOf}
-use Rattle.chain.specs.LabelLaws.{count-most, count-least, count-within}
+use Rattle.chain.specs.LabelLaws.{count-within}
 use Rattle.chain.specs.Chain.{ChainState, Step, toldOf, heardOf, withKeeper, withClock, clockRun, symbolOf, levelOf, steppedOf}
 use Rattle.chain.specs.Ranges.{KeeperRanged, ViewRanged, Ranged}
 
