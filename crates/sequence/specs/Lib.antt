@@ -2,5 +2,9 @@ pub mod Observed
 pub mod Walk
 pub mod Sequence
 pub mod Ranges
+pub mod Detector
 pub mod Laws
 pub mod Steps
+pub mod History
+pub mod Theorems
+pub mod Idle

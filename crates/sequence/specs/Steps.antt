@@ -1,6 +1,6 @@
 -- Laws of the detector's step: what the proofs of its functions apply, and the ranges that a step keeps. Assumes nothing.
 use mathlib.Core.Path.{_≡_, ap, sym, _∙_, subst}
-use mathlib.Core.Logic.{⊎-elim}
+use mathlib.Core.Logic.{_⊎_, inl, inr, ⊎-elim}
 use Prim.Native.Nat.{ℕ, _+_, _-_, _*_, _/_, _%_, _≤_, _<_}
 use native.Mathlib.Omega.{arith}
 use mathlib.Core.Bool.{Bool, true, false, cond}
@@ -39,19 +39,12 @@ module _ {A : Type 0} (a b : ℕ) (x y : A) where
   pub above-is : b ≤ a → y ≡ cond (ltb a b) x y
   above-is h = rw (is-false (ltb a b) (not-T (ltb a b) (λ t. let l = ltb→lt a b t in omega arith)))
 
--- ---- the step, from its parts
-module _ (d : DetectorPlace) (input : Complex32) (reliable : Bool) (oldest : Soft) (c : Planes) (costs : List Float) (parents : List ℕ) where
-  pub step-is : (best : ℕ) (after : List Float) (row stored : List ℕ) (guesses next : Planes) (t : Taps) (seen : Seen) (walked : Walked) (r : Detected)
-      → _≡_ {A = Advance} (record { best = best; costs = after; parents = row; predictions = guesses }) (advancedOf c costs input reliable)
-      → t ≡ tapsOf c (getD row best 0)
-      → seen ≡ seenOf input reliable t (getD row best 0)
-      → next ≡ followedOf c row guesses input reliable
-      → stored ≡ storedOf parents (d .write) row
-      → walked ≡ walkedOf stored (d .write) (d .filled) best (d .previous) oldest
-      → r ≡ reportedOf d walked seen input (pointAt guesses best) reliable
-      → _≡_ {A = Run} (record { detected = r; channels = next; costs = after; parents = stored }) (detectedOf d input reliable oldest c costs parents)
-  unfolding detectedOf detectedWith
-  step-is best after row stored guesses next t seen walked r ea et es en ep ew er = rw (er, ew, es, et, en, ep) (ap (detectedWith d input reliable oldest c parents) ea)
+pub same-or-other : (a b : ℕ) → (a ≡ b) ⊎ (a ≡ b → ⊥)
+same-or-other a b =
+    ⊎-elim
+    (λ l. inr (λ e. omega arith))
+    (λ g. ⊎-elim (λ l. inl (omega arith)) (λ o. inr (λ e. omega arith)) (lt-or-ge a (b + 1)))
+    (lt-or-ge a b)
 
 -- ---- a stored row
 past-laid : (f : ℕ → ℕ) (from n : ℕ) (l : List ℕ) (j : ℕ) → from + n ≤ j → getD (laid f from n l) j 0 ≡ getD l j 0
@@ -87,12 +80,9 @@ module _ (parents : List ℕ) (write : ℕ) (row : List ℕ) (in-ring : write < 
       at : (w s : ℕ) → w < 32 → s < 64 → getD (storedOf parents write row) (64 * w + s) 0 < 64
       at w s h k =
           ⊎-elim
-          (λ l. rw (stored-other w s k (λ e. omega arith)) (t .below (64 * w + s) (omega arith)))
-          (λ g. ⊎-elim
-          (λ l. let e : w ≡ write = omega arith in rw (e, stored-row s k) (p .below s k))
-          (λ o. rw (stored-other w s k (λ e. omega arith)) (t .below (64 * w + s) (omega arith)))
-          (lt-or-ge w (write + 1)))
-          (lt-or-ge w write)
+          (λ e. subst (λ (z : ℕ). getD (storedOf parents write row) (64 * z + s) 0 < 64) (sym e) (rw (stored-row s k) (p .below s k)))
+          (λ n. rw (stored-other w s k n) (t .below (64 * w + s) (omega arith)))
+          (same-or-other w write)
 
 -- ---- ranges
 walked-earlier : (parents : List ℕ) (newest filled best : ℕ) (previous : Previous) (oldest : Soft) → Earlier previous → Earlier (walkedOf parents newest filled best previous oldest .previous)
@@ -122,15 +112,27 @@ detected-ranged d input reliable oldest c costs parents h = record {
   parents-size = stored-size parents (d .write) _ (h .write) (h .parents-size);
 }
 
--- the same of what a step leaves
-abbrev RunRanged : Run → Type 0
-RunRanged r = Ranged (r .detected .place) (r .channels .real) (r .channels .imaginary) (r .costs) (r .parents)
-
-pub step-ranged : (d : DetectorPlace) (input : Complex32) (reliable : Bool) (oldest : Soft) (c : Planes) (costs : List Float) (parents : List ℕ) (r : Run)
-    → r ≡ detectedOf d input reliable oldest c costs parents → Ranged d (c .real) (c .imaginary) costs parents
-    → Ranged (r .detected .place) (r .channels .real) (r .channels .imaginary) (r .costs) (r .parents)
-step-ranged d input reliable oldest c costs parents r e h = subst RunRanged (sym e) (detected-ranged d input reliable oldest c costs parents h)
-
 -- what the walk back asks of the parents, once the row is stored
 pub asked-table : (parents : List ℕ) (write : ℕ) (row stored : List ℕ) → stored ≡ storedOf parents write row → write < 32 → length parents ≡ 2048 → Table parents → Parents row → Table stored
 asked-table parents write row stored e w n t p = subst Table (sym e) (stored-table parents write row w n t p)
+
+-- ---- the step, from its parts
+abbrev RunRanged : Run → Type 0
+RunRanged r = Ranged (r .detected .place) (r .channels .real) (r .channels .imaginary) (r .costs) (r .parents)
+
+pub step-meets : (d : DetectorPlace) (input : Complex32) (reliable : Bool) (oldest : Soft) (c : Planes) (costs : List Float) (parents : List ℕ)
+    (best : ℕ) (after : List Float) (row stored : List ℕ) (guesses next : Planes) (t : Taps) (seen : Seen) (walked : Walked) (r : Detected)
+    → _≡_ {A = Advance} (record { best = best; costs = after; parents = row; predictions = guesses }) (advancedOf c costs input reliable)
+    → t ≡ tapsOf c (getD row best 0)
+    → seen ≡ seenOf input reliable t (getD row best 0)
+    → next ≡ followedOf c row guesses input reliable
+    → stored ≡ storedOf parents (d .write) row
+    → walked ≡ walkedOf stored (d .write) (d .filled) best (d .previous) oldest
+    → r ≡ reportedOf d walked seen input (pointAt guesses best) reliable
+    → Ranged d (c .real) (c .imaginary) costs parents
+    → (_≡_ {A = Run} (record { detected = r; channels = next; costs = after; parents = stored }) (detectedOf d input reliable oldest c costs parents))
+    × Ranged (r .place) (next .real) (next .imaginary) after stored
+step-meets d input reliable oldest c costs parents best after row stored guesses next t seen walked r ea et es en ep ew er h = (same, subst RunRanged (sym same) (detected-ranged d input reliable oldest c costs parents h))
+  where
+    same : _≡_ {A = Run} (record { detected = r; channels = next; costs = after; parents = stored }) (detectedOf d input reliable oldest c costs parents)
+    same = unfold detectedOf in unfold detectedWith in rw (er, ew, es, et, en, ep) (ap (detectedWith d input reliable oldest c parents) ea)

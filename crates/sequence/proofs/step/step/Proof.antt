@@ -1,6 +1,6 @@
 -- `sequence::step::step` meets its contract. Assumes nothing.
 use native.Mathlib.Omega.{arith}
-use Rattle.sequence.specs.Steps.{step-is, step-ranged, asked-table}
+use Rattle.sequence.specs.Steps.{asked-table, step-meets}
 use borrow.Author.Needs.{needs}
 use Rattle.sequence.proofs.step.step.Statement.{statement}
 use Rattle.sequence.proofs.step.step.Tie as tie
@@ -48,7 +48,7 @@ reported-requires : tie.Need-reported-requires
 reported-requires c κs = c .before .before .before .before .before .before .before .before .before .before .before .before .before .before .before .before .before .before .before .before .before .before .pre .write
 
 returns : tie.Need-returns
-returns c = let e = step-is _ _ _ _ _ _ _ _ _ _ _ _ _ _ _ _ _ (c .before .before .before .before .before .before .before .before .before .before .before .before .before .before .before .before .advance .ensures .0) (c .before .before .before .before .before .before .before .before .before .before .before .before .before .taps-at .ensures) (c .before .before .before .before .before .before .before .before .before .before .before .before .observed .ensures) (c .before .before .before .before .before .before .follow .ensures) (c .before .before .before .store .ensures) (c .before .walk .ensures) (c .reported .ensures) in (e, step-ranged _ _ _ _ _ _ _ _ e (c .before .before .before .before .before .before .before .before .before .before .before .before .before .before .before .before .before .before .before .before .before .before .before .pre))
+returns c = step-meets _ _ _ _ _ _ _ _ _ _ _ _ _ _ _ _ _ (c .before .before .before .before .before .before .before .before .before .before .before .before .before .before .before .before .advance .ensures .0) (c .before .before .before .before .before .before .before .before .before .before .before .before .before .taps-at .ensures) (c .before .before .before .before .before .before .before .before .before .before .before .before .observed .ensures) (c .before .before .before .before .before .before .follow .ensures) (c .before .before .before .store .ensures) (c .before .walk .ensures) (c .reported .ensures) (c .before .before .before .before .before .before .before .before .before .before .before .before .before .before .before .before .before .before .before .before .before .before .before .pre)
 
 pub step-spec : {M : Type 1} → statement M
 step-spec =

@@ -1,0 +1,75 @@
+//! What bench.rattle does, with the upstream's detector: bench/sequence.sh puts the oracle's opened
+//! copy of the upstream beside this file.
+
+#[allow(dead_code)]
+mod dsp;
+#[allow(dead_code)]
+mod equalizer;
+#[allow(dead_code)]
+mod routines;
+#[allow(dead_code)]
+mod sequence;
+#[allow(dead_code)]
+mod signal;
+
+use dsp::Complex32;
+use sequence::{Sequence, Tracking};
+
+fn mixed(h: u64, x: u64) -> u64 {
+    let mut h = h ^ x;
+    h = h.wrapping_add(h << 21);
+    h ^= h >> 24;
+    h = h.wrapping_add(h << 3);
+    h = h.wrapping_add(h << 8);
+    h ^ (h >> 14)
+}
+
+fn mixed32(h: u64, x: f32) -> u64 {
+    mixed(h, if x.is_nan() { 0x7fc0_0000 } else { x.to_bits() as u64 })
+}
+
+/// Parts of received symbols from a seed.
+fn parts_from(seed: u64) -> [f32; 1024] {
+    let mut s = seed;
+    std::array::from_fn(|_| {
+        s ^= s << 13;
+        s ^= s >> 7;
+        s ^= s << 17;
+        let level = if s % 2 == 0 { 0.70710677 } else { -0.70710677 };
+        level + 0.25 * ((s >> 40) as f32 / 8388608.0 - 1.0)
+    })
+}
+
+fn steps(rounds: u64, all: bool) -> u64 {
+    let (xs, ys) = (parts_from(1), parts_from(2));
+    let mut detector = Sequence::new(Tracking::Lms);
+    let mut h = 0;
+    for _ in 0..rounds {
+        for i in 0..1024 {
+            let input = Complex32 {
+                real: xs[i],
+                imaginary: ys[i],
+            };
+            let (answer, phase, power) = detector.process(input, all || i % 8 != 5);
+            h = mixed32(mixed32(h, phase), power);
+            if let Some((dibit, [high, low])) = answer {
+                h = mixed(h, dibit as u64 + 256 * high as u64 + 65536 * low as u64);
+            }
+            if let Some(z) = detector.equalized() {
+                h = mixed32(mixed32(h, z.real), z.imaginary);
+            }
+        }
+    }
+    h
+}
+
+fn main() {
+    let mut line = String::new();
+    std::io::stdin().read_line(&mut line).unwrap();
+    let h = match line.bytes().next() {
+        Some(b'a') => steps(500, true),
+        Some(b'g') => steps(500, false),
+        _ => steps(1, false),
+    };
+    println!("{h:016x}");
+}
