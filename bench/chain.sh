@@ -16,11 +16,6 @@ for crate in laws numbers complex routines signal equalizer tracker trellis sequ
     cp -R "$top/crates/$crate/src" "$room/crates/$crate/"
     grep "^$crate:" "$top/crates.txt" >>"$room/crates.txt"
 done
-# In one program the crate `taps` and the module `tracker::taps` cannot both have that name where the
-# crates are read as source, as the tool does.
-mv "$room/crates/taps" "$room/crates/tap_tables"
-sed -i 's/\btaps\b/tap_tables/' "$room/crates.txt"
-sed -i 's/^use taps::/use tap_tables::/' "$room/crates/chain/src/lib.rt"
 echo 'bench: chain carrier sequence equalizer replay io libc' >>"$room/crates.txt"
 cp "$top/bench/chain/bench.rattle" "$room/crates/bench/src/main.rt"
 (cd "$room" && "$native" program bench >/dev/null)

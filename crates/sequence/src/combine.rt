@@ -11,7 +11,7 @@ use complex::subtracted;
 use numbers::compare::is_finite32;
 use signal::Observation;
 use tracker::symbols::symbol;
-use tracker::taps::Taps;
+use tracker::channel::Taps;
 
 // The observation weighted by the main tap, so that its size follows the channel's power, and the
 // same over that power.
