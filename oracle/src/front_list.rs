@@ -87,7 +87,11 @@ fn sample_part(s: u64, kind: u64) -> f32 {
 
 fn answer(run: Run) -> u64 {
     let (kind, profile) = (run[3] & 255, run[3] >> 8 & 255);
-    let mut d = Demodulator::new(f64::from_bits(run[0]), f64::from_bits(run[1]), profile as i32);
+    let mut d = Demodulator::new(
+        f64::from_bits(run[0]),
+        f64::from_bits(run[1]),
+        profile as i32,
+    );
     let mut s = run[2];
     let mut part = || {
         s = folded(s, 1);

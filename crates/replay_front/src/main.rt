@@ -37,7 +37,9 @@ fn sample_part(s: u64, kind: u64) -> f32 {
 }
 
 // A block of 1,024 samples; the seed after it comes back.
-fn fill(samples: &mut [f32; 2048], seed: u64, kind: u64) -> u64 {
+fn fill(samples: &mut [f32; 2048], seed: u64, kind: u64) -> u64
+    ensures { λ _. ⌜ length (now (samples .exit)) ≡ length (now (samples .entry)) ⌝ }
+{
     let mut s = seed;
     let mut i = 0;
     while i < 2048 {
@@ -48,11 +50,11 @@ fn fill(samples: &mut [f32; 2048], seed: u64, kind: u64) -> u64 {
     s
 }
 
-fn is_clean(samples: &[f32; 2048]) -> bool
+fn is_clean(samples: &[f32]) -> bool
     ensures { λ r. ⌜ (r ≡ true → Numbers (now (samples .entry))) ⌝ }
 {
     let mut i = 0;
-    while i < 2048 {
+    while i < samples.len() {
         if is_nan32(samples[i]) {
             return false;
         }
@@ -77,14 +79,16 @@ fn mixed_row(digest: u64, row_real: &[f32; 256], row_imaginary: &[f32; 256], mad
 fn block(
     t: Played,
     conjugated: bool,
-    samples: &[f32; 2048],
-    table: &[f32; 18432],
+    samples: &[f32],
+    table: &[f32],
     ring_real: &mut [f32; 592],
     ring_imaginary: &mut [f32; 592],
 ) -> Played
     requires { ⌜ Ready (t .place) ⌝ }
     requires { ⌜ Numbers (now samples) ⌝ }
     requires { ⌜ t .place .resampler .index + 1024 ≤ 2 ^ 52 ⌝ }
+    requires { ⌜ length (now samples) ≡ 2048 ⌝ }
+    requires { ⌜ length (now table) ≡ 18432 ⌝ }
     ensures { λ r. ⌜ Ready (r .place) ⌝ }
 {
     let mut row_real: [f32; 256] = [0.0; 256];
@@ -137,8 +141,9 @@ fn mixed_state(t: Played) -> u64 {
 }
 
 // A run of blocks: the digest is printed.
-fn run(place: FrontPlace, record: &[u8; 32], table: &[f32; 18432])
+fn run(place: FrontPlace, record: &[u8; 32], table: &[f32])
     requires { ⌜ Ready place ⌝ }
+    requires { ⌜ length (now table) ≡ 18432 ⌝ }
 {
     let last = word(record, 24);
     let mut samples: [f32; 2048] = [0.0; 2048];
