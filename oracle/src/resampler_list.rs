@@ -81,7 +81,7 @@ fn runs(random: &mut Random) -> Vec<Run> {
             runs.push(plain(1, rate, kind, count as u64));
         }
     }
-    for rate in [9600.0, 48000.0, 341000.0, 384000.0, 2.4e6] {
+    for rate in RATES {
         for step in [0.5, 20.0, 0.5 + random.below(1 << 20) as f64 / 65536.0] {
             for room in [MOST, MOST / 32, 1 << 47, 5000] {
                 runs.push(handed_in(random, rate, step, room));
