@@ -1,8 +1,29 @@
 // One step of the detector.
+ghost use mathlib.Core.Path.{_≡_};
+ghost use Rattle.tracker.specs.Tracker.{Planes};
+ghost use Rattle.sequence.specs.Sequence.{freshPlace, freshTap, freshReal, freshRecords, phaseBetween, powerTold, oneMore, reportedOf, Run, detectedOf};
+ghost use Rattle.sequence.specs.Ranges.{Ranged};
+use super::combine::Seen;
+use super::combine::observed;
+use super::soft::Records;
+use super::soft::Slot;
 use super::soft::Soft;
+use super::soft::noise_after;
+use super::soft::record;
 use super::walk::Answer;
 use super::walk::Previous;
+use super::walk::Walked;
+use super::walk::store;
+use super::walk::walk;
+use complex::Complex32;
+use complex::multiplied_conjugate;
+use complex::power;
+use complex::subtracted;
+use routines::angle::arctangent;
 use signal::Observation;
+use tracker::follow::follow;
+use tracker::taps::taps_at;
+use trellis::step::advance;
 
 // What the detector keeps beside its planes: the row for the next step's parents and record, how
 // many steps are held, the symbol that the last walk ended at, the last combined observation, and
@@ -24,4 +45,160 @@ pub struct Detected {
     pub equalized: Observation,
     pub phase: f32,
     pub power: f32,
+}
+
+// Beside it the costs, the parents and the imaginary plane of the channels are zero.
+pub fn fresh() -> DetectorPlace
+    ensures { λ r. ⌜ r ≡ freshPlace ⌝ }
+{
+    DetectorPlace {
+        write: 0,
+        filled: 0,
+        previous: Previous::Unknown,
+        combined: Observation::Absent,
+        noise: 0.1,
+    }
+}
+
+fn fresh_tap(i: usize) -> f32
+    ensures { λ r. ⌜ r ≡ freshTap i ⌝ }
+{
+    if i < 64 { 1.0 } else { 0.0 }
+}
+
+// The real plane of fresh channels: the main tap is 1.
+pub fn fresh_channels() -> [f32; 256]
+    ensures { λ r. ⌜ r ≡ freshReal ⌝ }
+{
+    let mut h = [0.0; 256];
+    let mut i = 0;
+    while i < 256 {
+        h[i] = fresh_tap(i);
+        i += 1;
+    }
+    h
+}
+
+pub fn fresh_records() -> Records
+    ensures { λ r. ⌜ r ≡ freshRecords ⌝ }
+{
+    Records {
+        slots: [Slot {
+            soft: Soft::Unrecorded,
+        }; 32],
+    }
+}
+
+// The angle from the prediction to the input, and 0 where the input is not reliable.
+fn phase_between(input: Complex32, guess: Complex32, reliable: bool) -> f32
+    ensures { λ r. ⌜ r ≡ phaseBetween input guess reliable ⌝ }
+{
+    if reliable {
+        let turn = multiplied_conjugate(input, guess);
+        arctangent(turn.imaginary, turn.real)
+    } else {
+        0.0
+    }
+}
+
+// The carrier is told a power of 1 where the input is not reliable.
+fn power_told(power: f32, reliable: bool) -> f32
+    ensures { λ r. ⌜ r ≡ powerTold power reliable ⌝ }
+{
+    if reliable { power } else { 1.0 }
+}
+
+// Up to 32 steps are held.
+fn one_more(filled: usize) -> usize
+    ensures { λ r. ⌜ r ≡ oneMore filled ⌝ }
+{
+    if filled < 32 { filled + 1 } else { 32 }
+}
+
+// What the step gives, from the walk back, the observation and the best state's prediction.
+fn reported(
+    d: DetectorPlace,
+    walked: Walked,
+    seen: Seen,
+    input: Complex32,
+    guess: Complex32,
+    reliable: bool,
+) -> Detected
+    ensures { λ r. ⌜ r ≡ reportedOf d walked seen input guess reliable ⌝ }
+{
+    let before = d.combined;
+    let combined = seen.combined;
+    let equalized = seen.equalized;
+    let previous = walked.previous;
+    let answer = walked.answer;
+    let residual = power(subtracted(input, guess));
+    let noise = noise_after(d.noise, residual, reliable);
+    let soft = record(combined, before, noise);
+    let place = DetectorPlace {
+        write: (d.write + 1) % 32,
+        filled: one_more(d.filled),
+        previous,
+        combined,
+        noise,
+    };
+    Detected {
+        place,
+        answer,
+        soft,
+        equalized,
+        phase: phase_between(input, guess, reliable),
+        power: power_told(residual, reliable),
+    }
+}
+
+// One step. `oldest` is the record of 31 steps before; the caller puts the step's own in the slot
+// `write`.
+pub fn step(
+    d: DetectorPlace,
+    input: Complex32,
+    reliable: bool,
+    oldest: Soft,
+    channel_real: &mut [f32; 256],
+    channel_imaginary: &mut [f32; 256],
+    costs: &mut [f32; 64],
+    parents: &mut [u8; 2048],
+) -> Detected
+    requires { ⌜ Ranged d (now «channel_real») (now «channel_imaginary») (now costs) (now parents) ⌝ }
+    ensures { λ r. ⌜ _≡_ {A = Run} (record { detected = r; channels = record { real = now («channel_real» .exit); imaginary = now («channel_imaginary» .exit) }; costs = now (costs .exit); parents = now (parents .exit) }) (detectedOf d input reliable oldest (record { real = now («channel_real» .entry); imaginary = now («channel_imaginary» .entry) }) (now (costs .entry)) (now (parents .entry))) ⌝ }
+    ensures kept { λ r. ⌜ Ranged (r .place) (now («channel_real» .exit)) (now («channel_imaginary» .exit)) (now (costs .exit)) (now (parents .exit)) ⌝ }
+{
+    let mut row = [0; 64];
+    let mut guess_real = [0.0; 64];
+    let mut guess_imaginary = [0.0; 64];
+    let best = advance(
+        channel_real,
+        channel_imaginary,
+        input,
+        reliable,
+        costs,
+        &mut row,
+        &mut guess_real,
+        &mut guess_imaginary,
+    );
+    let guess = Complex32 {
+        real: guess_real[best],
+        imaginary: guess_imaginary[best],
+    };
+    let prior = row[best];
+    let survivor = taps_at(channel_real, channel_imaginary, prior as usize);
+    let seen = observed(input, reliable, survivor, prior as u32);
+    follow(
+        channel_real,
+        channel_imaginary,
+        &row,
+        &guess_real,
+        &guess_imaginary,
+        input,
+        reliable,
+    );
+    let write = d.write;
+    let previous = d.previous;
+    store(parents, write, &row);
+    let walked = walk(parents, write, d.filled, best, previous, oldest);
+    reported(d, walked, seen, input, guess, reliable)
 }
