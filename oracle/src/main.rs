@@ -32,6 +32,7 @@ mod generator;
 mod help;
 mod helpers;
 mod list;
+mod made;
 mod numbers;
 mod options;
 mod oscillator_list;
@@ -43,6 +44,7 @@ mod resampler_list;
 mod routine_list;
 mod samples;
 mod selftest;
+mod sequence_list;
 mod state;
 mod table;
 mod tables;
@@ -83,6 +85,7 @@ fn run(words: &[&str]) -> Outcome {
         ["decimator", rest @ ..] => decimator_list::run(rest),
         ["clock", rest @ ..] => clock_list::run(rest),
         ["oscillator", rest @ ..] => oscillator_list::run(rest),
+        ["sequence", rest @ ..] => sequence_list::run(rest),
         ["tables", rest @ ..] => tables::run(rest),
         ["resampler", rest @ ..] => resampler_list::run(rest),
         ["taps", rest @ ..] => taps::run(rest),
