@@ -1,6 +1,6 @@
 // One step of the detector.
 ghost use mathlib.Core.Path.{_≡_};
-ghost use Rattle.tracker.specs.Tracker.{Planes};
+ghost use Prim.Native.Nat.{_<_};
 ghost use Rattle.sequence.specs.Sequence.{freshPlace, freshTap, freshReal, freshRecords, phaseBetween, powerTold, oneMore, reportedOf, Run, detectedOf};
 ghost use Rattle.sequence.specs.Ranges.{Ranged};
 use super::combine::Seen;
@@ -124,6 +124,7 @@ fn reported(
     guess: Complex32,
     reliable: bool,
 ) -> Detected
+    requires { ⌜ d .write < 32 ⌝ }
     ensures { λ r. ⌜ r ≡ reportedOf d walked seen input guess reliable ⌝ }
 {
     let before = d.combined;
