@@ -33,6 +33,10 @@ pub fn mixed_flag(h: u64, x: bool) -> u64 {
     mixed(h, if x { 1 } else { 0 })
 }
 
+pub fn mixed_byte(h: u64, x: u8) -> u64 {
+    mixed(h, x as u64)
+}
+
 fn wide(x: u8) -> u64 {
     x as u64
 }

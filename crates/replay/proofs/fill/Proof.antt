@@ -1,3 +1,4 @@
+-- `replay::fill` is safe, ends and keeps the plane's length. Assumes nothing.
 use Prim.Native.Nat.{_≤_, _-_}
 use mathlib.Core.Path.{_≡_, refl}
 use lib.ListN.{length, length-set}

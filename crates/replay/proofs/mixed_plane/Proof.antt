@@ -1,3 +1,4 @@
+-- `replay::mixed_plane` is safe and ends: as many turns as the plane has places. Assumes nothing.
 use Prim.Native.Nat.{_≤_, _-_}
 use lib.ListN.{length}
 use borrow.Author.Needs.{needs}
