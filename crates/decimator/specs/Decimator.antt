@@ -14,6 +14,8 @@ use Rattle.decimator.specs.declared.Integrators.{Integrators}
 use Rattle.decimator.specs.declared.Counts.{Counts}
 use Rattle.decimator.specs.declared.Decimator.{Decimator}
 use Rattle.decimator.specs.declared.Difference.{Difference}
+use Rattle.decimator.specs.declared.Release.{Release}
+use Rattle.decimator.specs.declared.Decimated.{Decimated}
 use Rattle.decimator.specs.declared.Answer.{Answer}
 use Rattle.decimator.specs.declared.Answer.the-variants.{Silent, Sum}
 use Rattle.decimator.specs.declared.Advance.{Advance}
@@ -68,14 +70,17 @@ absorbedOf s n = record { real = integratedOf (s .real) (n .real); imaginary = i
 abbrev pub silentOf : Decimator → Integrators → Advance
 silentOf d s = record { decimator = record { decimation = d .decimation; counter = d .counter + 1; integrators = s; combs = d .combs }; answer = Silent }
 
-abbrev pub soundedOf : Decimator → Integrators → Advance
-soundedOf d s =
+abbrev pub releasedOf : Decimator → Integrators → Release
+releasedOf d s =
     let a = combedOf (d .combs .real) (s .real .third) in
     let b = combedOf (d .combs .imaginary) (s .imaginary .third) in
     record {
       decimator = record { decimation = d .decimation; counter = 0; integrators = s; combs = record { real = a .delays; imaginary = b .delays } };
-      answer = Sum (record { real = a .value; imaginary = b .value });
+      sum = record { real = a .value; imaginary = b .value };
     }
+
+abbrev pub soundedOf : Decimator → Integrators → Advance
+soundedOf d s = record { decimator = releasedOf d s .decimator; answer = Sum (releasedOf d s .sum) }
 
 unfoldable pub advancedOf : Decimator → Counts → Advance
 advancedOf d n =
@@ -101,6 +106,9 @@ scaledOf d n = record {
   real = convert binary32 (mul binary64 (ofInt binary64 (n .real)) (scaleOf d));
   imaginary = convert binary32 (mul binary64 (ofInt binary64 (n .imaginary)) (scaleOf d));
 }
+
+abbrev pub decimatedOf : Decimator → Integrators → Decimated
+decimatedOf d s = record { decimator = releasedOf d s .decimator; value = scaledOf (d .decimation) (releasedOf d s .sum) }
 
 unfoldable pub outputOf : ℕ → Answer → Output
 outputOf d Silent = Nothing

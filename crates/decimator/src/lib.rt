@@ -4,7 +4,7 @@
 ghost use mathlib.Core.Path.{_≡_};
 ghost use Prim.Native.Nat.{_<_};
 ghost use lib.Ieee.{binary64, ofInt};
-ghost use Rattle.decimator.specs.Decimator.{freshOf, countsOf, integratedOf, combedOf, absorbedOf, soundedOf, advancedOf, scaleOf, scaledOf, outputOf, steppedOf};
+ghost use Rattle.decimator.specs.Decimator.{freshOf, countsOf, integratedOf, combedOf, absorbedOf, releasedOf, soundedOf, advancedOf, scaleOf, scaledOf, decimatedOf, outputOf, steppedOf};
 ghost use Rattle.decimator.specs.Values.{Ready};
 use complex::Complex32;
 use numbers::bits::signed;
@@ -67,6 +67,12 @@ pub enum Answer {
     Sum(Counts),
 }
 
+// Both combs' sums at a d-th sample, and the decimator after it.
+pub struct Release {
+    pub decimator: Decimator,
+    pub sum: Counts,
+}
+
 pub struct Advance {
     pub decimator: Decimator,
     pub answer: Answer,
@@ -76,6 +82,12 @@ pub struct Advance {
 pub enum Output {
     Nothing,
     Value(Complex32),
+}
+
+// A decimated value, and the decimator after it.
+pub struct Decimated {
+    pub decimator: Decimator,
+    pub value: Complex32,
 }
 
 pub struct Step {
@@ -158,9 +170,9 @@ fn absorbed(s: Integrators, n: Counts) -> Integrators
     Integrators { real, imaginary }
 }
 
-// The d-th sample's answer, its sums taken.
-fn sounded(d: Decimator, s: Integrators) -> Advance
-    ensures { λ r. ⌜ r ≡ soundedOf d s ⌝ }
+// The combs at a d-th sample, its sums taken.
+fn released(d: Decimator, s: Integrators) -> Release
+    ensures { λ r. ⌜ r ≡ releasedOf d s ⌝ }
 {
     let combs = d.combs;
     let a = combs.real;
@@ -171,7 +183,7 @@ fn sounded(d: Decimator, s: Integrators) -> Advance
     let v = combed(b, y.third);
     let p = u.delays;
     let q = v.delays;
-    Advance {
+    Release {
         decimator: Decimator {
             decimation: d.decimation,
             counter: 0,
@@ -181,10 +193,22 @@ fn sounded(d: Decimator, s: Integrators) -> Advance
                 imaginary: q,
             },
         },
-        answer: Answer::Sum(Counts {
+        sum: Counts {
             real: u.value,
             imaginary: v.value,
-        }),
+        },
+    }
+}
+
+fn sounded(d: Decimator, s: Integrators) -> Advance
+    ensures { λ r. ⌜ r ≡ soundedOf d s ⌝ }
+{
+    let r = released(d, s);
+    let decimator = r.decimator;
+    let sum = r.sum;
+    Advance {
+        decimator,
+        answer: Answer::Sum(sum),
     }
 }
 
@@ -246,6 +270,25 @@ fn delivered(decimation: usize, a: Answer) -> Output
         Answer::Silent => Output::Nothing,
         Answer::Sum(n) => Output::Value(scaled(decimation, n)),
     }
+}
+
+// A sample into the integrators alone: the counter and the combs are the caller's, for runs of
+// samples between two outputs.
+pub fn gathered(s: Integrators, z: Complex32) -> Integrators
+    ensures { λ r. ⌜ r ≡ absorbedOf s (countsOf z) ⌝ }
+{
+    absorbed(s, counted(z))
+}
+
+// The value at a d-th sample, its sums taken.
+pub fn decimate(d: Decimator, s: Integrators) -> Decimated
+    ensures { λ r. ⌜ r ≡ decimatedOf d s ⌝ }
+{
+    let r = released(d, s);
+    let decimator = r.decimator;
+    let sum = r.sum;
+    let value = scaled(d.decimation, sum);
+    Decimated { decimator, value }
 }
 
 // One sample. d = 1 passes it through.

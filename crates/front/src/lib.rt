@@ -1,6 +1,19 @@
 // The front: samples are mixed, decimated and resampled into a row of values.
+ghost use mathlib.Core.Path.{_≡_};
+ghost use Prim.Native.Nat as Nat;
+ghost use Prim.Native.Nat.{_+_, _-_, _*_, _/_, _^_, _<_, _≤_};
+ghost use lib.ListN.{length};
+ghost use Rattle.oscillator.specs.Oscillator.{Number};
+ghost use Rattle.resampler.specs.Ready.{Ready as ReadyRing};
+ghost use Rattle.resampler.specs.Pass.{valuesOf};
+ghost use Rattle.front.specs.Front.{Front, Row, Offered, gatheredOf, gatherOf, drawnOf, laidOf, offeredNow, offeredOf, filledOf, frontNow, startOf};
+ghost use Rattle.front.specs.Ready.{Ready, Numbers, Kept, Drew, Offer};
+use complex::Complex32;
 use decimator::Decimator;
+use decimator::Integrators;
+use decimator::Output;
 use oscillator::Oscillator;
+use resampler::pass::Passed;
 use resampler::pass::Resampler;
 
 pub struct FrontPlace {
@@ -9,8 +22,273 @@ pub struct FrontPlace {
     pub resampler: Resampler,
 }
 
+// How many samples a call used, and how many values it made of them.
 pub struct Fronted {
     pub place: FrontPlace,
     pub used: usize,
     pub made: usize,
+}
+
+// What moves with every sample.
+pub struct Gathering {
+    pub oscillator: Oscillator,
+    pub integrators: Integrators,
+}
+
+// After a run of samples: how many they were, and what the decimator gave for the last.
+pub struct Drawn {
+    pub oscillator: Oscillator,
+    pub decimator: Decimator,
+    pub output: Output,
+    pub run: usize,
+}
+
+// A resampler, and how many values its row holds.
+pub struct Offering {
+    pub resampler: Resampler,
+    pub made: usize,
+}
+
+fn gathered(g: Gathering, conjugated: bool, sample: Complex32) -> Gathering
+    requires { ⌜ Number sample ⌝ }
+    requires { ⌜ g .oscillator .renormalize < 4096 ⌝ }
+    ensures same { λ r. ⌜ r ≡ gatheredOf conjugated g sample ⌝ }
+    ensures kept { λ r. ⌜ r .oscillator .renormalize < 4096 ⌝ }
+{
+    let o = g.oscillator;
+    let s = g.integrators;
+    let z = oscillator::mixed(o, sample, conjugated);
+    let integrators = decimator::gathered(s, z);
+    let oscillator = oscillator::turned(o);
+    Gathering {
+        oscillator,
+        integrators,
+    }
+}
+
+// `count` samples from `from` on into the integrators: what they change stays in registers.
+fn gather(g: Gathering, conjugated: bool, samples: &[f32], from: usize, count: usize) -> Gathering
+    requires { ⌜ Numbers (now samples) ⌝ }
+    requires { ⌜ g .oscillator .renormalize < 4096 ⌝ }
+    requires { ⌜ from + count ≤ length (now samples) / 2 ⌝ }
+    ensures { λ r. ⌜ r ≡ gatherOf conjugated (now (samples .entry)) from count g ⌝ }
+{
+    let mut h = g;
+    let mut i = 0;
+    while i < count {
+        let sample = Complex32 {
+            real: samples[2 * (from + i)],
+            imaginary: samples[2 * (from + i) + 1],
+        };
+        h = gathered(h, conjugated, sample);
+        i += 1;
+    }
+    h
+}
+
+// d = 1: one sample, and it goes on as it is mixed.
+fn single(p: FrontPlace, conjugated: bool, samples: &[f32], from: usize) -> Drawn
+    requires { ⌜ Ready p ⌝ }
+    requires { ⌜ p .decimator .decimation ≤ 1 ⌝ }
+    requires { ⌜ Numbers (now samples) ⌝ }
+    requires { ⌜ from < length (now samples) / 2 ⌝ }
+    ensures { λ r. ⌜ r ≡ drawnOf conjugated (now (samples .entry)) from (length (now (samples .entry)) / 2 - from) p ⌝ }
+{
+    let o = p.oscillator;
+    let decimator = p.decimator;
+    let sample = Complex32 {
+        real: samples[2 * from],
+        imaginary: samples[2 * from + 1],
+    };
+    let z = oscillator::mixed(o, sample, conjugated);
+    let oscillator = oscillator::turned(o);
+    Drawn {
+        oscillator,
+        decimator,
+        output: Output::Value(z),
+        run: 1,
+    }
+}
+
+fn least(a: usize, b: usize) -> usize
+    ensures { λ r. ⌜ r ≡ Nat.min a b ⌝ }
+{
+    if a < b { a } else { b }
+}
+
+// d > 1: a run of samples into the integrators and, where it ends at a d-th, the combs' value.
+fn several(p: FrontPlace, conjugated: bool, samples: &[f32], from: usize) -> Drawn
+    requires { ⌜ Ready p ⌝ }
+    requires { ⌜ 1 < p .decimator .decimation ⌝ }
+    requires { ⌜ Numbers (now samples) ⌝ }
+    requires { ⌜ from < length (now samples) / 2 ⌝ }
+    ensures { λ r. ⌜ r ≡ drawnOf conjugated (now (samples .entry)) from (length (now (samples .entry)) / 2 - from) p ⌝ }
+{
+    let o = p.oscillator;
+    let d = p.decimator;
+    let i = d.integrators;
+    let needed = d.decimation - d.counter;
+    let run = least(samples.len() / 2 - from, needed);
+    let start = Gathering {
+        oscillator: o,
+        integrators: i,
+    };
+    let g = gather(start, conjugated, samples, from, run);
+    let oscillator = g.oscillator;
+    let integrators = g.integrators;
+    if run < needed {
+        let combs = d.combs;
+        return Drawn {
+            oscillator,
+            decimator: Decimator {
+                decimation: d.decimation,
+                counter: d.counter + run,
+                integrators,
+                combs,
+            },
+            output: Output::Nothing,
+            run,
+        };
+    }
+    let e = decimator::decimate(d, integrators);
+    let decimator = e.decimator;
+    let value = e.value;
+    Drawn {
+        oscillator,
+        decimator,
+        output: Output::Value(value),
+        run,
+    }
+}
+
+// The next run of samples through mixer and decimator.
+fn draw(p: FrontPlace, conjugated: bool, samples: &[f32], from: usize) -> Drawn
+    requires { ⌜ Ready p ⌝ }
+    requires { ⌜ Numbers (now samples) ⌝ }
+    requires { ⌜ from < length (now samples) / 2 ⌝ }
+    ensures same { λ r. ⌜ r ≡ drawnOf conjugated (now (samples .entry)) from (length (now (samples .entry)) / 2 - from) p ⌝ }
+    ensures kept { λ r. ⌜ Drew (length (now (samples .entry)) / 2 - from) p r ⌝ }
+{
+    let d = p.decimator;
+    if d.decimation > 1 {
+        return several(p, conjugated, samples, from);
+    }
+    single(p, conjugated, samples, from)
+}
+
+// The values of a pass go into the row.
+fn laid(p: Passed, made: usize, row_real: &mut [f32; 256], row_imaginary: &mut [f32; 256]) -> usize
+    requires { ⌜ made ≤ 254 ⌝ }
+    ensures { λ r. ⌜ _≡_ {A = Row} (record { real = now («row_real» .exit); imaginary = now («row_imaginary» .exit); made = r })
+        (laidOf (valuesOf p) (record { real = now («row_real» .entry); imaginary = now («row_imaginary» .entry); made = made })) ⌝ }
+{
+    if p.count == 0 {
+        return made;
+    }
+    row_real[made] = p.first.real;
+    row_imaginary[made] = p.first.imaginary;
+    if p.count == 1 {
+        return made + 1;
+    }
+    row_real[made + 1] = p.second.real;
+    row_imaginary[made + 1] = p.second.imaginary;
+    made + 2
+}
+
+// A decimated value into the ring, and the values that it makes due into the row.
+fn offered(
+    r: Resampler,
+    made: usize,
+    output: Output,
+    table: &[f32],
+    ring_real: &mut [f32; 592],
+    ring_imaginary: &mut [f32; 592],
+    row_real: &mut [f32; 256],
+    row_imaginary: &mut [f32; 256],
+) -> Offering
+    requires { ⌜ ReadyRing r ⌝ }
+    requires { ⌜ r .index < 2 ^ 52 ⌝ }
+    requires { ⌜ 32 * r .arm ≤ length (now table) ⌝ }
+    requires { ⌜ made ≤ 254 ⌝ }
+    ensures same { λ l. ⌜ _≡_ {A = Offered} (offeredNow l (now («ring_real» .exit)) (now («ring_imaginary» .exit)) (now («row_real» .exit)) (now («row_imaginary» .exit)))
+        (offeredOf (now (table .entry)) (offeredNow (record { resampler = r; made = made }) (now («ring_real» .entry)) (now («ring_imaginary» .entry)) (now («row_real» .entry)) (now («row_imaginary» .entry))) output) ⌝ }
+    ensures kept { λ l. ⌜ Offer r made l ⌝ }
+{
+    match output {
+        Output::Nothing => Offering { resampler: r, made },
+        Output::Value(value) => {
+            let p = resampler::pass::resampled(
+                r,
+                value,
+                table,
+                &mut *ring_real,
+                &mut *ring_imaginary,
+            );
+            let now_made = laid(p, made, &mut *row_real, &mut *row_imaginary);
+            let resampler = p.resampler;
+            Offering {
+                resampler,
+                made: now_made,
+            }
+        }
+    }
+}
+
+// Takes samples from `from` on until they are used up or the row has no room for two more values.
+pub fn front(
+    place: FrontPlace,
+    conjugated: bool,
+    samples: &[f32],
+    from: usize,
+    table: &[f32],
+    ring_real: &mut [f32; 592],
+    ring_imaginary: &mut [f32; 592],
+    row_real: &mut [f32; 256],
+    row_imaginary: &mut [f32; 256],
+) -> Fronted
+    requires { ⌜ Ready place ⌝ }
+    requires { ⌜ Numbers (now samples) ⌝ }
+    requires { ⌜ 32 * place .resampler .arm ≤ length (now table) ⌝ }
+    requires { ⌜ place .resampler .index + (length (now samples) / 2 - from) ≤ 2 ^ 52 ⌝ }
+    ensures same { λ r. ⌜ _≡_ {A = Front} (frontNow r from (now («ring_real» .exit)) (now («ring_imaginary» .exit)) (now («row_real» .exit)) (now («row_imaginary» .exit)))
+        (filledOf conjugated (now (table .entry)) (now (samples .entry)) (frontNow (startOf place) from (now («ring_real» .entry)) (now («ring_imaginary» .entry)) (now («row_real» .entry)) (now («row_imaginary» .entry)))) ⌝ }
+    ensures kept { λ r. ⌜ Kept (length (now (samples .entry)) / 2 - from) place r ⌝ }
+{
+    let end = samples.len() / 2;
+    let mut p = place;
+    let mut at = from;
+    let mut made = 0;
+    while at < end {
+        if 254 < made {
+            break;
+        }
+        let r = p.resampler;
+        let s = draw(p, conjugated, samples, at);
+        let output = s.output;
+        let l = offered(
+            r,
+            made,
+            output,
+            table,
+            &mut *ring_real,
+            &mut *ring_imaginary,
+            &mut *row_real,
+            &mut *row_imaginary,
+        );
+        let oscillator = s.oscillator;
+        let decimator = s.decimator;
+        let resampler = l.resampler;
+        p = FrontPlace {
+            oscillator,
+            decimator,
+            resampler,
+        };
+        at = at + s.run;
+        made = l.made;
+    }
+    Fronted {
+        place: p,
+        used: at - from,
+        made,
+    }
 }

@@ -1,24 +1,13 @@
 -- `decimator::sounded` meets its contract. Assumes nothing.
 use borrow.Author.Needs.{needs}
-use mir.Val.{SFits}
-use mir.Syntax.{w64}
-use mir.Facts.{toZ-ofZ}
 use Rattle.decimator.proofs.sounded.Statement.{statement}
 use Rattle.decimator.proofs.sounded.Tie as tie
 
-combed-requires : tie.Need-combed-requires
-combed-requires c κs = search needs
-
-combed-requires-2 : tie.Need-combed-requires-2
-combed-requires-2 c κs = search needs
+released-requires : tie.Need-released-requires
+released-requires c κs = search needs
 
 returns : tie.Need-returns
-returns c =
-    let u = c .before .before .before .before .before .combed in
-    let v = c .before .before .before .before .combed2 in
-    let h : SFits w64 (u .result .value) = search needs in
-    let k : SFits w64 (v .result .value) = search needs in
-    rw (toZ-ofZ h, toZ-ofZ k, u .ensures, v .ensures)
+returns c = rw (c .before .before .released .ensures)
 
 pub sounded-spec : {M : Type 1} → statement M
-sounded-spec = tie.close (tie.spec combed-requires combed-requires-2 returns)
+sounded-spec = tie.close (tie.spec released-requires returns)

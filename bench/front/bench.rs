@@ -1,0 +1,99 @@
+//! What bench.rattle does, with the upstream's mixer and resampler: bench/front.sh puts the oracle's
+//! opened copy of the upstream and the mixer's lines (mixer.rs) beside this file.
+
+#[allow(dead_code)]
+mod dsp;
+#[allow(dead_code)]
+mod equalizer;
+#[allow(dead_code)]
+mod routines;
+#[allow(dead_code)]
+mod sequence;
+#[allow(dead_code)]
+mod signal;
+
+use dsp::{Complex32, Resampler};
+
+fn mixed(h: u64, x: u64) -> u64 {
+    let mut h = h ^ x;
+    h = h.wrapping_add(h << 21);
+    h ^= h >> 24;
+    h = h.wrapping_add(h << 3);
+    h = h.wrapping_add(h << 8);
+    h ^ (h >> 14)
+}
+
+fn mixed32(h: u64, x: f32) -> u64 {
+    mixed(h, if x.is_nan() { 0x7fc0_0000 } else { x.to_bits() as u64 })
+}
+
+struct Front {
+    resampler: Resampler,
+    oscillator_real: f64,
+    oscillator_imaginary: f64,
+    step_real: f64,
+    step_imaginary: f64,
+    renormalize: usize,
+    symbols: Profile,
+}
+
+struct Profile {
+    profile: i32,
+}
+
+impl Front {
+    fn run(&mut self, input: &[Complex32], sink: &mut impl FnMut(Complex32)) {
+        for sample in input {
+            let sample = self.process(sample);
+            self.resampler.process(sample, sink);
+        }
+    }
+}
+
+include!("mixer.rs");
+
+fn run(rate: f64, blocks: u64) -> u64 {
+    let mut s = 1;
+    let mut number = || {
+        s = mixed(s, 12345);
+        (s >> 40) as f32 / 8388608.0 - 1.0
+    };
+    let samples: Vec<Complex32> = (0..1024)
+        .map(|_| Complex32 {
+            real: number(),
+            imaginary: number(),
+        })
+        .collect();
+    let start = dsp::Demodulator::new(rate, 2000.0, 1);
+    let mut front = Front {
+        resampler: start.resampler,
+        oscillator_real: start.oscillator_real,
+        oscillator_imaginary: start.oscillator_imaginary,
+        step_real: start.step_real,
+        step_imaginary: start.step_imaginary,
+        renormalize: 0,
+        symbols: Profile { profile: 1 },
+    };
+    let (mut real, mut imaginary, mut made) = (0.0_f32, 0.0_f32, 0);
+    for _ in 0..blocks {
+        front.run(&samples, &mut |v| {
+            real += v.real;
+            imaginary += v.imaginary;
+            made += 1;
+        });
+    }
+    mixed(mixed32(mixed32(0, real), imaginary), made)
+}
+
+fn main() {
+    let mut line = String::new();
+    std::io::stdin().read_line(&mut line).unwrap();
+    let number = line.bytes().next().map_or(0, |b| b as usize);
+    let rates = [9600.0, 48000.0, 256000.0, 384000.0, 1000000.0, 2400000.0, 20000000.0];
+    let h = match number {
+        0..65 => run(48000.0, 1),
+        65 | 66 => run(rates[number - 65], 4000),
+        _ => run(rates[number - 65], 20000),
+    };
+    println!("{h:016x}");
+}

@@ -1,0 +1,56 @@
+-- What a front has to be for a sample to go in (document 01's clauses on oscillator, decimator and resampler), and what a call keeps. Definitions only.
+use Prim.Native.Nat.{ℕ, _+_, _-_, _*_, _/_, _^_, _≤_, _<_}
+use mathlib.Core.Path.{_≡_}
+use mathlib.Core.Bool.{not}
+use mathlib.Core.List.{List}
+use lib.Dec.{T}
+use lib.ListN.{length, getD}
+use lib.Ieee.{Float, nan, isNan}
+use Rattle.resampler.specs.Ready.{Ready as ReadyRing}
+use Rattle.front.specs.declared.FrontPlace.{FrontPlace}
+use Rattle.front.specs.declared.Fronted.{Fronted}
+use Rattle.front.specs.declared.Drawn.{Drawn}
+use Rattle.front.specs.declared.Offering.{Offering}
+use Rattle.resampler.specs.declared.pass.Resampler.{Resampler}
+
+pub record Ready (p : FrontPlace) : Type 0 where
+  pub turns : p .oscillator .renormalize < 4096
+  pub early : p .decimator .counter < p .decimator .decimation
+  pub slow : p .decimator .decimation ≤ 78
+  pub ring : ReadyRing (p .resampler)
+
+-- no float of a block is NaN: a block with such a sample is refused
+pub record Numbers (xs : List Float) : Type 0 where
+  pub each : (k : ℕ) → k < length xs → T (not (isNan (getD xs k nan)))
+
+-- what n samples keep, up to n values into the ring
+pub record Next (n : ℕ) (p q : FrontPlace) : Type 0 where
+  pub ready : Ready q
+  pub index-low : p .resampler .index ≤ q .resampler .index
+  pub index : q .resampler .index ≤ p .resampler .index + n
+  pub arm : q .resampler .arm ≡ p .resampler .arm
+  pub decimation : q .decimator .decimation ≡ p .decimator .decimation
+
+-- a call, `left` samples being there
+pub record Kept (left : ℕ) (p : FrontPlace) (r : Fronted) : Type 0 where
+  pub next : Next (r .used) p (r .place)
+  pub most : r .used ≤ left
+  pub some : 0 < left → 0 < r .used
+  pub room : r .made ≤ 256
+  pub few : r .made ≤ 2 * r .used
+
+-- a run
+pub record Drew (left : ℕ) (p : FrontPlace) (q : Drawn) : Type 0 where
+  pub turns : q .oscillator .renormalize < 4096
+  pub early : q .decimator .counter < q .decimator .decimation
+  pub decimation : q .decimator .decimation ≡ p .decimator .decimation
+  pub some : 0 < left → 0 < q .run
+  pub most : q .run ≤ left
+
+-- a decimated value or none, with room for two values
+pub record Offer (r : Resampler) (made : ℕ) (l : Offering) : Type 0 where
+  pub ready : ReadyRing (l .resampler)
+  pub index-low : r .index ≤ l .resampler .index
+  pub index : l .resampler .index ≤ r .index + 1
+  pub arm : l .resampler .arm ≡ r .arm
+  pub few : l .made ≤ made + 2
