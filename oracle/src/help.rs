@@ -57,6 +57,9 @@ const AFTER_STAGES: &str = "
       place after it and of a sample's windows
   oscillator inputs > LIST | oscillator answers < LIST
       runs of the mixer; a line per run, the digest of its samples and oscillators
+  front inputs > LIST | front answers < LIST
+      runs of mixer, decimator and resampler together; a line per run, the digest of its values and
+      its last state
   sequence inputs > LIST | sequence answers < LIST
       runs of the detector, from fresh and from states made from seeds; a line per step, the digest of
       its answer and of the whole state after it

@@ -28,6 +28,7 @@ mod chosen;
 mod clock_list;
 mod equalizer_list;
 mod decimator_list;
+mod front_list;
 mod generator;
 mod help;
 mod helpers;
@@ -84,6 +85,7 @@ fn run(words: &[&str]) -> Outcome {
         ["equalizer", rest @ ..] => equalizer_list::run(rest),
         ["decimator", rest @ ..] => decimator_list::run(rest),
         ["clock", rest @ ..] => clock_list::run(rest),
+        ["front", rest @ ..] => front_list::run(rest),
         ["oscillator", rest @ ..] => oscillator_list::run(rest),
         ["sequence", rest @ ..] => sequence_list::run(rest),
         ["tables", rest @ ..] => tables::run(rest),
