@@ -24,6 +24,7 @@ mod routines;
 mod accuracy;
 mod admitted;
 mod calls;
+mod chain_list;
 mod chosen;
 mod clock_list;
 mod equalizer_list;
@@ -84,6 +85,7 @@ fn run(words: &[&str]) -> Outcome {
         ["view", rest @ ..] => view_list::run(rest),
         ["equalizer", rest @ ..] => equalizer_list::run(rest),
         ["decimator", rest @ ..] => decimator_list::run(rest),
+        ["chain", rest @ ..] => chain_list::run(rest),
         ["clock", rest @ ..] => clock_list::run(rest),
         ["front", rest @ ..] => front_list::run(rest),
         ["oscillator", rest @ ..] => oscillator_list::run(rest),
