@@ -1,0 +1,3 @@
+pub mod Carrier
+pub mod Ranges
+pub mod Laws

@@ -1,8 +1,26 @@
-// The carrier loop around the detector.
+// The carrier loop around the detector: it turns each symbol back by its phase and by the
+// constellation's alternation, and follows the phase of what the detector missed by.
+ghost use mathlib.Core.Path.{_≡_};
+ghost use Prim.Native.Nat.{_≤_};
+ghost use Rattle.carrier.specs.Carrier.{freshPlace, rotationOf, turnedBack, correctedOf, unwoundOf, phaseErrorOf, frequencyOf, phaseOf, errorOf, lockedOf, turnedOf, Run, carriedOf};
+ghost use Rattle.carrier.specs.Ranges.{Ranged};
+use complex::Complex32;
+use complex::Complex64;
+use numbers::compare::clamp;
+use numbers::compare::clamp32;
+use numbers::narrow::widen;
+use numbers::root::sqrt32;
+use numbers::whole::round_ties_even;
+use routines::circle::SineCosine;
+use routines::circle::sine_cosine;
 use sequence::soft::Soft;
 use sequence::step::DetectorPlace;
 use sequence::walk::Answer;
 use signal::Observation;
+
+const PI: f64 = 3.141592653589793;
+
+const FULL_TURN: f64 = 6.283185307179586;
 
 // Phase and frequency (radians a symbol), the alternation of the constellation, whether the loop is
 // locked, and the smoothed size of its error.
@@ -24,4 +42,143 @@ pub struct Carried {
     pub answer: Answer,
     pub soft: Soft,
     pub equalized: Observation,
+}
+
+pub fn fresh() -> CarrierPlace
+    ensures { λ r. ⌜ r ≡ freshPlace ⌝ }
+{
+    CarrierPlace {
+        turn: Loop {
+            phase: 0.0,
+            frequency: 0.0,
+            alternation: 0,
+            locked: false,
+            error: 0.0,
+        },
+        detector: sequence::step::fresh(),
+    }
+}
+
+// The constellation turns by pi / 4 with each symbol.
+fn rotation(l: Loop) -> f64
+    ensures { λ r. ⌜ r ≡ rotationOf l ⌝ }
+{
+    l.phase + (l.alternation as f64) * PI / 4.0
+}
+
+// The sample turned back by an angle, in f64, each part narrowed once.
+fn turned_back(t: SineCosine, sample: Complex32) -> Complex32
+    ensures { λ r. ⌜ r ≡ turnedBack t sample ⌝ }
+{
+    let real = widen(sample.real);
+    let imaginary = widen(sample.imaginary);
+    complex::narrowed(Complex64 {
+        real: real * t.cosine + imaginary * t.sine,
+        imaginary: imaginary * t.cosine - real * t.sine,
+    })
+}
+
+fn corrected(l: Loop, sample: Complex32) -> Complex32
+    ensures { λ r. ⌜ r ≡ correctedOf l sample ⌝ }
+{
+    turned_back(sine_cosine(rotation(l)), sample)
+}
+
+// A phase brought to -pi..=pi.
+fn unwound(phase: f64) -> f64
+    ensures { λ r. ⌜ r ≡ unwoundOf phase ⌝ }
+{
+    phase - round_ties_even(phase / FULL_TURN) * FULL_TURN
+}
+
+fn phase_error(e: f32) -> f64
+    ensures { λ r. ⌜ r ≡ phaseErrorOf e ⌝ }
+{
+    widen(clamp32(e, -0.5, 0.5))
+}
+
+fn frequency_after(frequency: f64, e: f64) -> f64
+    ensures { λ r. ⌜ r ≡ frequencyOf frequency e ⌝ }
+{
+    clamp(frequency + 0.003 * e, -0.65, 0.65)
+}
+
+fn phase_after(phase: f64, frequency: f64, e: f64) -> f64
+    ensures { λ r. ⌜ r ≡ phaseOf phase frequency e ⌝ }
+{
+    unwound(phase + (frequency + 0.2 * e))
+}
+
+fn error_after(error: f64, power: f32) -> f64
+    ensures { λ r. ⌜ r ≡ errorOf error power ⌝ }
+{
+    0.98 * error + 0.02 * widen(sqrt32(power))
+}
+
+fn is_locked(reliable: bool, error: f64) -> bool
+    ensures { λ r. ⌜ r ≡ lockedOf reliable error ⌝ }
+{
+    reliable & (error < 0.4)
+}
+
+// The loop after a step with this phase error and this power of the error.
+fn turned(l: Loop, phase: f32, power: f32, reliable: bool) -> Loop
+    requires { ⌜ l .alternation ≤ 7 ⌝ }
+    ensures { λ r. ⌜ r ≡ turnedOf l phase power reliable ⌝ }
+{
+    let e = phase_error(phase);
+    let frequency = frequency_after(l.frequency, e);
+    let error = error_after(l.error, power);
+    Loop {
+        phase: phase_after(l.phase, frequency, e),
+        frequency,
+        alternation: (l.alternation + 1) % 8,
+        locked: is_locked(reliable, error),
+        error,
+    }
+}
+
+// One symbol. `oldest` is the soft record of 31 steps before; the caller puts the step's own in the
+// detector's slot.
+pub fn step(
+    c: CarrierPlace,
+    sample: Complex32,
+    reliable: bool,
+    oldest: Soft,
+    channel_real: &mut [f32; 256],
+    channel_imaginary: &mut [f32; 256],
+    costs: &mut [f32; 64],
+    parents: &mut [u8; 2048],
+) -> Carried
+    requires { ⌜ Ranged c (now «channel_real») (now «channel_imaginary») (now costs) (now parents) ⌝ }
+    ensures same { λ r. ⌜ _≡_ {A = Run} (record { carried = r; channels = record { real = now («channel_real» .exit); imaginary = now («channel_imaginary» .exit) }; costs = now (costs .exit); parents = now (parents .exit) }) (carriedOf c sample reliable oldest (record { real = now («channel_real» .entry); imaginary = now («channel_imaginary» .entry) }) (now (costs .entry)) (now (parents .entry))) ⌝ }
+    ensures kept { λ r. ⌜ Ranged (r .place) (now («channel_real» .exit)) (now («channel_imaginary» .exit)) (now (costs .exit)) (now (parents .exit)) ⌝ }
+{
+    let before = c.turn;
+    let detector = c.detector;
+    let input = corrected(before, sample);
+    let d = sequence::step::step(
+        detector,
+        input,
+        reliable,
+        oldest,
+        channel_real,
+        channel_imaginary,
+        costs,
+        parents,
+    );
+    let turn = turned(before, d.phase, d.power, reliable);
+    let next = d.place;
+    let answer = d.answer;
+    let soft = d.soft;
+    let equalized = d.equalized;
+    Carried {
+        place: CarrierPlace {
+            turn,
+            detector: next,
+        },
+        answer,
+        soft,
+        equalized,
+    }
 }

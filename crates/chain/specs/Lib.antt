@@ -1,0 +1,6 @@
+pub mod Labels
+pub mod LabelLaws
+pub mod Chain
+pub mod Ranges
+pub mod Laws
+pub mod Kept

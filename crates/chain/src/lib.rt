@@ -1,5 +1,8 @@
 // The chain: a row of resampled values to dibits, through peak keeper, clock, equalizer, carrier
 // with detector, and view.
+pub mod label;
+pub mod step;
+
 use carrier::CarrierPlace;
 use clock::ClockPlace;
 use peak::KeeperPlace;

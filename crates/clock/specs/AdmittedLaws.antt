@@ -18,7 +18,7 @@ use Rattle.clock.specs.Ranges.{Within, f48, minus16, Admitted}
 use Rattle.clock.specs.Update.{lt-nan}
 
 -- ---- a range: two comparisons that a NaN passes
-within-from : (x low high : Float) → T (ends low high) → T (within x low high) → Within low high x
+pub within-from : (x low high : Float) → T (ends low high) → T (within x low high) → Within low high x
 unfolding lt
 within-from nan low high p t = inl refl
 within-from (inf s) nan high p t = absurd p

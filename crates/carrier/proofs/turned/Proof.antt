@@ -1,0 +1,39 @@
+-- `carrier::turned` meets its contract. Assumes nothing.
+use Rattle.carrier.specs.Carrier.{turnedOf}
+use borrow.Author.Needs.{needs}
+use Rattle.carrier.proofs.turned.Statement.{statement}
+use Rattle.carrier.proofs.turned.Tie as tie
+
+phase-error-requires : tie.Need-phase-error-requires
+phase-error-requires c κs = search needs
+
+frequency-after-requires : tie.Need-frequency-after-requires
+frequency-after-requires c κs = search needs
+
+error-after-requires : tie.Need-error-after-requires
+error-after-requires c κs = search needs
+
+phase-after-requires : tie.Need-phase-after-requires
+phase-after-requires c κs = search needs
+
+add-t9 : tie.Need-add-t9
+add-t9 c = search needs
+
+is-locked-requires : tie.Need-is-locked-requires
+is-locked-requires c κs = search needs
+
+returns : tie.Need-returns
+unfolding turnedOf
+returns c = cc
+
+pub turned-spec : {M : Type 1} → statement M
+turned-spec =
+    tie.close
+    (tie.spec
+    phase-error-requires
+    frequency-after-requires
+    error-after-requires
+    phase-after-requires
+    add-t9
+    is-locked-requires
+    returns)

@@ -1,0 +1,50 @@
+-- A step's answer put together from its parts, and the alternation's range. Assumes nothing.
+use Prim.Native.Nat.{ℕ, _+_, _%_, _≤_}
+use native.Mathlib.Nat.{mod-lt}
+use native.Mathlib.Omega.{arith}
+use mathlib.Core.Path.{_≡_, refl, ap, _∙_}
+use mathlib.Core.Bool.{Bool}
+use mathlib.Core.List.{List}
+use lib.Ieee.{Float}
+use Rattle.complex.specs.declared.Complex32.{Complex32}
+use Rattle.tracker.specs.Tracker.{Planes}
+use Rattle.sequence.specs.declared.soft.Soft.{Soft}
+use Rattle.sequence.specs.Sequence as Sequence
+use Rattle.sequence.specs.Steps.{detected-ranged}
+use Rattle.carrier.specs.declared.Loop.{Loop}
+use Rattle.carrier.specs.declared.CarrierPlace.{CarrierPlace}
+use Rattle.carrier.specs.declared.Carried.{Carried}
+use Rattle.carrier.specs.Carrier.{Run, correctedOf, turnedOf, carriedWith, carriedOf}
+use Rattle.carrier.specs.Ranges.{Ranged}
+
+abbrev pub RunRanged : Run → Type 0
+RunRanged r = Ranged (r .carried .place) (r .channels .real) (r .channels .imaginary) (r .costs) (r .parents)
+
+pub step-is : (c : CarrierPlace) (z input : Complex32) (reliable : Bool) (oldest : Soft) (channels : Planes) (costs : List Float) (parents : List ℕ) (d : Sequence.Run) (turn : Loop)
+    → input ≡ correctedOf (c .turn) z → d ≡ Sequence.detectedOf (c .detector) input reliable oldest channels costs parents
+    → turn ≡ turnedOf (c .turn) (d .detected .phase) (d .detected .power) reliable
+    → _≡_ {A = Run}
+    (record {
+      carried = record { place = record { turn = turn; detector = d .detected .place }; answer = d .detected .answer; soft = d .detected .soft; equalized = d .detected .equalized };
+      channels = d .channels;
+      costs = d .costs;
+      parents = d .parents;
+    })
+    (carriedOf c z reliable oldest channels costs parents)
+unfolding carriedOf
+step-is c z input reliable oldest channels costs parents d turn i e t =
+    rw t (ap (carriedWith c reliable) (e ∙ ap (λ (x : Complex32). Sequence.detectedOf (c .detector) x reliable oldest channels costs parents) i))
+
+-- THE ALTERNATION stays below 8
+pub turned-below : (l r : Loop) (phase power : Float) (reliable : Bool) → r ≡ turnedOf l phase power reliable → r .alternation ≤ 7
+unfolding turnedOf
+turned-below l r phase power reliable e = let k = mod-lt (l .alternation + 1) {m = 8} (omega arith) in rw e (omega arith)
+
+-- ADMITTED IN, ADMITTED OUT
+pub carried-ranged : (c : CarrierPlace) (z : Complex32) (reliable : Bool) (oldest : Soft) (channels : Planes) (costs : List Float) (parents : List ℕ)
+    → Ranged c (channels .real) (channels .imaginary) costs parents → RunRanged (carriedOf c z reliable oldest channels costs parents)
+unfolding carriedOf
+carried-ranged c z reliable oldest channels costs parents h = record {
+  alternation = turned-below (c .turn) _ _ _ reliable refl;
+  detector = detected-ranged (c .detector) (correctedOf (c .turn) z) reliable oldest channels costs parents (h .detector);
+}

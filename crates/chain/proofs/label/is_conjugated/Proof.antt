@@ -1,0 +1,14 @@
+-- `chain::label::is_conjugated` meets its contract. Assumes nothing.
+use Rattle.chain.specs.LabelLaws.{profile-one, profile-other}
+use borrow.Author.Needs.{needs}
+use Rattle.chain.proofs.label.is_conjugated.Statement.{statement}
+use Rattle.chain.proofs.label.is_conjugated.Tie as tie
+
+returns : tie.Need-returns
+returns c = profile-one _ (c .before .fits .profile) (c .if1 .taken)
+
+returns-2 : tie.Need-returns-2
+returns-2 c = profile-other (c .before .args .profile) (c .if1 .left)
+
+pub is-conjugated-spec : {M : Type 1} → statement M
+is-conjugated-spec = tie.close (tie.spec returns returns-2)

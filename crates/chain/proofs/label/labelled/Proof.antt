@@ -1,0 +1,38 @@
+-- `chain::label::labelled` meets its contract. Assumes nothing.
+use Rattle.chain.specs.LabelLaws.{label-conjugated, label-kept}
+use borrow.Author.Needs.{needs}
+use Rattle.chain.proofs.label.labelled.Statement.{statement}
+use Rattle.chain.proofs.label.labelled.Tie as tie
+
+enum-known-answer : tie.Need-enum-known-answer
+enum-known-answer c = search needs
+
+enum-told : tie.Need-enum-told
+enum-told c = search needs
+
+returns : tie.Need-returns
+returns c = search needs
+
+relabelled-requires : tie.Need-relabelled-requires
+relabelled-requires c κs = search needs
+
+lesser-requires : tie.Need-lesser-requires
+lesser-requires c κs = search needs
+
+returns-2 : tie.Need-returns-2
+returns-2 c = label-conjugated _ _ _ _ _ (c .before .before .before .before .answer .given .1) _ _ (c .before .before .if1 .taken) (c .before .relabelled .ensures) (c .lesser .ensures)
+
+returns-3 : tie.Need-returns-3
+returns-3 c = label-kept _ _ _ _ _ (c .before .before .answer .given .1) (c .if1 .left)
+
+pub labelled-spec : {M : Type 1} → statement M
+labelled-spec =
+    tie.close
+    (tie.spec
+    enum-known-answer
+    enum-told
+    returns
+    relabelled-requires
+    lesser-requires
+    returns-2
+    returns-3)

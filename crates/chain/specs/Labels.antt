@@ -1,0 +1,28 @@
+-- A dibit as its profile labels it, and what it adds to a count. Definitions only.
+use Prim.Native.Nat.{ℕ, _+_, min}
+use mathlib.Core.Bool.{Bool, false, cond}
+use mathlib.Core.List.{List, [], _∷_}
+use lib.Dec.{eqb}
+use lib.IntN.{ℤ, pos, negsuc}
+use lib.ListN.{getD}
+use Rattle.sequence.specs.declared.walk.Answer.{Answer}
+use Rattle.sequence.specs.declared.walk.Answer.the-variants.{Silent, Dibit}
+
+-- profile 1; every other number acts as 0
+abbrev pub conjugates : ℤ → Bool
+conjugates (pos n) = eqb n 1
+conjugates (negsuc n) = false
+
+-- conjugated labels: the higher bit is the old lower one, the lower bit the two combined
+abbrev pub relabelledOf : ℕ → ℕ
+relabelledOf dibit = getD (0 ∷ 3 ∷ 1 ∷ 2 ∷ []) dibit 2
+
+-- so the reliabilities are the old lower one, and the lesser of the two
+abbrev pub labelledOf : Bool → Answer → Answer
+labelledOf conjugated Silent = Silent
+labelledOf conjugated (Dibit dibit high low) = cond conjugated (Dibit (relabelledOf dibit) low (min high low)) (Dibit dibit high low)
+
+-- a dibit is one more where it counts
+abbrev pub countedOf : ℕ → Answer → Bool → ℕ
+countedOf n Silent counts = n
+countedOf n (Dibit dibit high low) counts = cond counts (n + 1) n

@@ -1,0 +1,57 @@
+// A dibit as its profile labels it, and what it adds to a count.
+ghost use mathlib.Core.Path.{_≡_};
+ghost use Prim.Native.Nat.{_<_, min};
+ghost use Rattle.chain.specs.Labels.{conjugates, relabelledOf, labelledOf, countedOf};
+use sequence::walk::Answer;
+
+// Profile 1 is conjugated; every other number acts as 0.
+pub fn is_conjugated(profile: i32) -> bool
+    ensures { λ r. ⌜ r ≡ conjugates profile ⌝ }
+{
+    if profile == 1 { true } else { false }
+}
+
+// The higher bit is the old lower one, the lower bit the two combined.
+fn relabelled(dibit: u8) -> u8
+    ensures { λ r. ⌜ r ≡ relabelledOf dibit ⌝ }
+{
+    if dibit == 0 {
+        0
+    } else if dibit == 1 {
+        3
+    } else if dibit == 2 {
+        1
+    } else {
+        2
+    }
+}
+
+fn lesser(a: u8, b: u8) -> u8
+    ensures { λ r. ⌜ r ≡ min a b ⌝ }
+{
+    if a < b { a } else { b }
+}
+
+// The reliabilities go with the bits: the combined one is as good as the worse of the two.
+pub fn labelled(conjugated: bool, answer: Answer) -> Answer
+    ensures { λ r. ⌜ r ≡ labelledOf conjugated answer ⌝ }
+{
+    let Answer::Dibit(dibit, high, low) = answer else {
+        return answer;
+    };
+    if conjugated {
+        return Answer::Dibit(relabelled(dibit), low, lesser(high, low));
+    }
+    answer
+}
+
+// One more for a dibit that counts.
+pub fn counted(count: u64, answer: Answer, counts: bool) -> u64
+    requires { ⌜ count < 9007199254740992 ⌝ }
+    ensures { λ r. ⌜ r ≡ countedOf count answer counts ⌝ }
+{
+    let Answer::Dibit(_, _, _) = answer else {
+        return count;
+    };
+    if counts { count + 1 } else { count }
+}
