@@ -33,7 +33,7 @@ pub fn mixed_flag(h: u64, x: bool) -> u64 {
     mixed(h, if x { 1 } else { 0 })
 }
 
-pub fn mixed_byte(h: u64, x: u8) -> u64 {
+fn mixed_byte(h: u64, x: u8) -> u64 {
     mixed(h, x as u64)
 }
 
@@ -66,6 +66,16 @@ pub fn mixed_plane(h: u64, plane: &[f32]) -> u64 {
     let mut i = 0;
     while i < plane.len() {
         d = mixed_float32(d, plane[i]);
+        i += 1;
+    }
+    d
+}
+
+pub fn mixed_bytes(h: u64, s: &[u8]) -> u64 {
+    let mut d = h;
+    let mut i = 0;
+    while i < s.len() {
+        d = mixed_byte(d, s[i]);
         i += 1;
     }
     d

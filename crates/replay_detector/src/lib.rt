@@ -6,7 +6,6 @@ ghost use lib.ListN.{length};
 ghost use Rattle.sequence.specs.Walk.{Table, Earlier};
 use complex::Complex32;
 use replay::mixed;
-use replay::mixed_byte;
 use replay::mixed_flag;
 use replay::mixed_float32;
 use replay::next;
@@ -180,16 +179,6 @@ pub fn mixed_place(h: u64, d: DetectorPlace) -> u64 {
     let a = mixed(mixed(h, d.write as u64), d.filled as u64);
     let b = mixed(a, shown_previous(previous));
     mixed_float32(mixed_point(b, combined), d.noise)
-}
-
-pub fn mixed_parents(h: u64, parents: &[u8; 2048]) -> u64 {
-    let mut d = h;
-    let mut i = 0;
-    while i < 2048 {
-        d = mixed_byte(d, parents[i]);
-        i += 1;
-    }
-    d
 }
 
 fn mixed_soft(h: u64, soft: Soft) -> u64 {

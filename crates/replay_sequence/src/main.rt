@@ -8,6 +8,7 @@ use complex::Complex32;
 use numbers::bits::float32;
 use replay::fill;
 use replay::mixed;
+use replay::mixed_bytes;
 use replay::mixed_float32;
 use replay::mixed_plane;
 use replay::print_line;
@@ -15,7 +16,6 @@ use replay::word;
 use replay_detector::fill_parents;
 use replay_detector::made_place;
 use replay_detector::made_records;
-use replay_detector::mixed_parents;
 use replay_detector::mixed_place;
 use replay_detector::mixed_point;
 use replay_detector::mixed_records;
@@ -69,7 +69,7 @@ fn tell(
     }
     let h = mixed_place(told(d), place);
     let planes = mixed_plane(mixed_plane(h, real), imaginary);
-    let all = mixed_parents(mixed_plane(planes, costs), parents);
+    let all = mixed_bytes(mixed_plane(planes, costs), parents);
     print_line(mixed_records(all, records), 16);
 }
 

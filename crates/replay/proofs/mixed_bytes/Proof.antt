@@ -1,20 +1,21 @@
--- `replay_detector::mixed_parents` is safe and ends: 2,048 turns. Assumes nothing.
+-- `replay::mixed_bytes` is safe and ends: as many turns as there are bytes. Assumes nothing.
 use Prim.Native.Nat.{_≤_, _-_}
+use lib.ListN.{length}
 use borrow.Author.Needs.{needs}
-use Rattle.replay_detector.proofs.mixed_parents.Statement.{statement}
-use Rattle.replay_detector.proofs.mixed_parents.Tie as tie
+use Rattle.replay.proofs.mixed_bytes.Statement.{statement}
+use Rattle.replay.proofs.mixed_bytes.Tie as tie
 
 abbrev Inv-loop : tie.InvT-loop
-Inv-loop h parents d₀ i₀ d i = i ≤ 2048
+Inv-loop h s d₀ i₀ d i = i ≤ length s
 
 abbrev μ-loop : tie.MeasureT-loop
-μ-loop h parents d₀ i₀ d i = 2048 - i
+μ-loop h s d₀ i₀ d i = length s - i
 
 loop-holds : tie.Need-loop-holds Inv-loop μ-loop
 loop-holds c = search needs
 
-element-copy-out-mixed-byte : tie.Need-element-copy-out-mixed-byte Inv-loop μ-loop
-element-copy-out-mixed-byte c = search needs
+shared-slice-read-mixed-byte : tie.Need-shared-slice-read-mixed-byte Inv-loop μ-loop
+shared-slice-read-mixed-byte c = search needs
 
 mixed-byte-requires : tie.Need-mixed-byte-requires Inv-loop μ-loop
 mixed-byte-requires c κs = search needs
@@ -31,14 +32,14 @@ loop-again c = search needs
 returns : tie.Need-returns Inv-loop μ-loop
 returns c = search needs
 
-pub mixed-parents-spec : {M : Type 1} → statement M
-mixed-parents-spec =
+pub mixed-bytes-spec : {M : Type 1} → statement M
+mixed-bytes-spec =
     tie.close
     (tie.spec
     Inv-loop
     μ-loop
     loop-holds
-    element-copy-out-mixed-byte
+    shared-slice-read-mixed-byte
     mixed-byte-requires
     add-i
     loop-less
