@@ -19,6 +19,7 @@ use Rattle.equalizer.specs.Equalizer as Equalizer
 use Rattle.tracker.specs.Tracker.{Planes}
 use Rattle.sequence.specs.declared.soft.Soft.{Soft}
 use Rattle.sequence.specs.declared.walk.Answer.{Answer}
+use Rattle.carrier.specs.declared.CarrierPlace.{CarrierPlace}
 use Rattle.carrier.specs.declared.Carried.{Carried}
 use Rattle.carrier.specs.Carrier as Carrier
 use Rattle.signal.specs.declared.ViewPlace.{ViewPlace}
@@ -27,8 +28,13 @@ use Rattle.chain.specs.declared.ChainPlace.{ChainPlace}
 use Rattle.chain.specs.declared.step.Outcome.the-variants.{Quiet, Heard}
 use Rattle.chain.specs.declared.step.Stepped.{Stepped}
 use Rattle.chain.specs.Labels.{conjugates, labelledOf, countedOf}
-use Rattle.chain.specs.Chain.{ChainState, Hearing, Step, movedPlace, toldOf, hearingWith, heardOf, waitingOf, withKeeper, withClock, withHearing, symbolOf, clockedWith, clockRun, levelOf, steppedWith, steppedOf}
+use Rattle.chain.specs.Chain.{freshPlace, ChainState, Hearing, Step, movedPlace, toldOf, hearingWith, heardOf, waitingOf, withKeeper, withClock, withHearing, symbolOf, clockedWith, clockRun, levelOf, steppedWith, steppedOf}
 use Rattle.chain.specs.Ranges.{mostSymbols, Attends, Ranged}
+
+pub fresh-is : (keeper : KeeperPlace) (clock : ClockPlace) (carrier : CarrierPlace) (view : ViewPlace) (q profile : ℤ) → q ≡ profile
+    → keeper ≡ Peak.freshPlace → clock ≡ Clock.freshPlace → carrier ≡ Carrier.freshPlace → view ≡ Signal.freshPlace
+    → _≡_ {A = ChainPlace} (record { keeper = keeper; clock = clock; carrier = carrier; view = view; profile = q; symbols = 0; locked = 0 }) (freshPlace profile)
+fresh-is keeper clock carrier view q profile e k t c v = rw (e, k, t, c, v)
 
 pub told-is : (p : ChainPlace) (clock : ClockPlace) (c : Carried) (view : ViewPlace) (symbols locked : ℕ) (conjugated : Bool) (label : Answer) (profile : ℤ)
     → profile ≡ p .profile → symbols ≡ countedOf (p .symbols) (c .answer) true → locked ≡ countedOf (p .locked) (c .answer) (c .place .turn .locked)

@@ -1,6 +1,8 @@
 pub mod Labels
 pub mod LabelLaws
 pub mod Chain
+pub mod Rows
 pub mod Ranges
 pub mod Laws
 pub mod Kept
+pub mod RowLaws
