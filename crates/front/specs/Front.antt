@@ -2,7 +2,7 @@
 use Prim.Native.Nat.{ℕ, _+_, _-_, _*_, _/_}
 use Prim.Native.Nat as Nat
 use mathlib.Core.Bool.{Bool}
-use mathlib.Core.List.{List, [], _++_, map, foldl}
+use mathlib.Core.List.{List, _++_, map, foldl}
 use lib.Dec.{ltb}
 use lib.ListN.{length, getD}
 use lib.Seq.{sets}
@@ -113,7 +113,7 @@ isFull f = ltb 254 (f .row .made)
 unfoldable pub filledOf : Bool → List Float → List Float → Front → Front
 filledOf conjugated table xs f = until isFull (tookOf conjugated table xs) (length xs / 2 - f .at) f
 
--- what a call leaves of what it was lent
+-- what a call was lent, and what it leaves of it
 abbrev pub frontNow : Fronted → ℕ → List Float → List Float → List Float → List Float → Front
 frontNow t from ringReal ringImaginary rowReal rowImaginary = record {
   rung = record { place = t .place; real = ringReal; imaginary = ringImaginary };
@@ -162,3 +162,14 @@ offeredNow l ringReal ringImaginary rowReal rowImaginary = record {
   ring = record { resampler = l .resampler; real = ringReal; imaginary = ringImaginary };
   row = record { real = rowReal; imaginary = rowImaginary; made = l .made };
 }
+
+-- a run, and what its last sample gave
+abbrev pub advancedWith : List Float → Front → Drawn → Front
+advancedWith table f q = record { rung = rungOf (q .oscillator) (q .decimator) (hearing table (ringOf (f .rung)) (q .output)); row = laidOf (heard table (ringOf (f .rung)) (q .output)) (f .row); at = f .at + q .run }
+
+unfoldable pub advancedOf : Bool → List Float → List Float → Front → Front
+advancedOf conjugated table xs f = advancedWith table f (drawnOf conjugated xs (f .at) (length xs / 2 - f .at) (f .rung .place))
+
+-- ---- the first n values of a row, as a list
+unfoldable pub rowed : List Float → List Float → ℕ → List Complex32
+rowed real imaginary n = upto (λ k. record { real = getD real k nan; imaginary = getD imaginary k nan }) n

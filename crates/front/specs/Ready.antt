@@ -1,5 +1,5 @@
 -- What a front has to be for a sample to go in (document 01's clauses on oscillator, decimator and resampler), and what a call keeps. Definitions only.
-use Prim.Native.Nat.{ℕ, _+_, _-_, _*_, _/_, _^_, _≤_, _<_}
+use Prim.Native.Nat.{ℕ, _+_, _-_, _*_, _≤_, _<_}
 use mathlib.Core.Path.{_≡_}
 use mathlib.Core.Bool.{not}
 use mathlib.Core.List.{List}
@@ -31,7 +31,15 @@ pub record Next (n : ℕ) (p q : FrontPlace) : Type 0 where
   pub arm : q .resampler .arm ≡ p .resampler .arm
   pub decimation : q .decimator .decimation ≡ p .decimator .decimation
 
--- a call, `left` samples being there
+-- a call so far, `left` samples being there at its start
+pub record Going (left : ℕ) (p : FrontPlace) (t : Fronted) : Type 0 where
+  pub next : Next (t .used) p (t .place)
+  pub most : t .used ≤ left
+  pub room : t .made ≤ 256
+  -- at most two values a sample
+  pub few : t .made ≤ 2 * t .used
+
+-- a whole call
 pub record Kept (left : ℕ) (p : FrontPlace) (r : Fronted) : Type 0 where
   pub next : Next (r .used) p (r .place)
   pub most : r .used ≤ left
@@ -54,3 +62,10 @@ pub record Offer (r : Resampler) (made : ℕ) (l : Offering) : Type 0 where
   pub index : l .resampler .index ≤ r .index + 1
   pub arm : l .resampler .arm ≡ r .arm
   pub few : l .made ≤ made + 2
+
+-- a run and its values, `left` samples being there
+pub record Moved (left : ℕ) (t r : Fronted) : Type 0 where
+  pub next : Next (r .used - t .used) (t .place) (r .place)
+  pub further : t .used < r .used
+  pub most : r .used ≤ t .used + left
+  pub few : r .made ≤ t .made + 2

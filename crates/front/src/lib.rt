@@ -6,8 +6,8 @@ ghost use lib.ListN.{length};
 ghost use Rattle.oscillator.specs.Oscillator.{Number};
 ghost use Rattle.resampler.specs.Ready.{Ready as ReadyRing};
 ghost use Rattle.resampler.specs.Pass.{valuesOf};
-ghost use Rattle.front.specs.Front.{Front, Row, Offered, gatheredOf, gatherOf, drawnOf, laidOf, offeredNow, offeredOf, filledOf, frontNow, startOf};
-ghost use Rattle.front.specs.Ready.{Ready, Numbers, Kept, Drew, Offer};
+ghost use Rattle.front.specs.Front.{Front, Row, Offered, gatheredOf, gatherOf, drawnOf, laidOf, offeredNow, offeredOf, advancedOf, filledOf, frontNow, startOf};
+ghost use Rattle.front.specs.Ready.{Ready, Numbers, Kept, Drew, Offer, Moved};
 use complex::Complex32;
 use decimator::Decimator;
 use decimator::Integrators;
@@ -234,6 +234,59 @@ fn offered(
     }
 }
 
+// The next run of samples, and the values that it makes due.
+fn advance(
+    t: Fronted,
+    conjugated: bool,
+    samples: &[f32],
+    from: usize,
+    table: &[f32],
+    ring_real: &mut [f32; 592],
+    ring_imaginary: &mut [f32; 592],
+    row_real: &mut [f32; 256],
+    row_imaginary: &mut [f32; 256],
+) -> Fronted
+    requires { ⌜ Ready (t .place) ⌝ }
+    requires { ⌜ Numbers (now samples) ⌝ }
+    requires { ⌜ 32 * t .place .resampler .arm ≤ length (now table) ⌝ }
+    requires { ⌜ t .place .resampler .index < 2 ^ 52 ⌝ }
+    requires { ⌜ t .made ≤ 254 ⌝ }
+    requires { ⌜ from + t .used < length (now samples) / 2 ⌝ }
+    ensures same { λ r. ⌜ _≡_ {A = Front} (frontNow r from (now («ring_real» .exit)) (now («ring_imaginary» .exit)) (now («row_real» .exit)) (now («row_imaginary» .exit)))
+        (advancedOf conjugated (now (table .entry)) (now (samples .entry)) (frontNow t from (now («ring_real» .entry)) (now («ring_imaginary» .entry)) (now («row_real» .entry)) (now («row_imaginary» .entry)))) ⌝ }
+    ensures left { λ r. ⌜ filledOf conjugated (now (table .entry)) (now (samples .entry)) (frontNow r from (now («ring_real» .exit)) (now («ring_imaginary» .exit)) (now («row_real» .exit)) (now («row_imaginary» .exit)))
+        ≡ filledOf conjugated (now (table .entry)) (now (samples .entry)) (frontNow t from (now («ring_real» .entry)) (now («ring_imaginary» .entry)) (now («row_real» .entry)) (now («row_imaginary» .entry))) ⌝ }
+    ensures kept { λ r. ⌜ Moved (length (now (samples .entry)) / 2 - (from + t .used)) t r ⌝ }
+{
+    let p = t.place;
+    let r = p.resampler;
+    let s = draw(p, conjugated, samples, from + t.used);
+    let used = t.used + s.run;
+    let output = s.output;
+    let l = offered(
+        r,
+        t.made,
+        output,
+        table,
+        &mut *ring_real,
+        &mut *ring_imaginary,
+        &mut *row_real,
+        &mut *row_imaginary,
+    );
+    let oscillator = s.oscillator;
+    let decimator = s.decimator;
+    let resampler = l.resampler;
+    Fronted {
+        place: FrontPlace {
+            oscillator,
+            decimator,
+            resampler,
+        },
+        used,
+        made: l.made,
+    }
+}
+
 // Takes samples from `from` on until they are used up or the row has no room for two more values.
 pub fn front(
     place: FrontPlace,
@@ -250,45 +303,33 @@ pub fn front(
     requires { ⌜ Numbers (now samples) ⌝ }
     requires { ⌜ 32 * place .resampler .arm ≤ length (now table) ⌝ }
     requires { ⌜ place .resampler .index + (length (now samples) / 2 - from) ≤ 2 ^ 52 ⌝ }
+    requires { ⌜ from ≤ length (now samples) / 2 ⌝ }
     ensures same { λ r. ⌜ _≡_ {A = Front} (frontNow r from (now («ring_real» .exit)) (now («ring_imaginary» .exit)) (now («row_real» .exit)) (now («row_imaginary» .exit)))
         (filledOf conjugated (now (table .entry)) (now (samples .entry)) (frontNow (startOf place) from (now («ring_real» .entry)) (now («ring_imaginary» .entry)) (now («row_real» .entry)) (now («row_imaginary» .entry)))) ⌝ }
     ensures kept { λ r. ⌜ Kept (length (now (samples .entry)) / 2 - from) place r ⌝ }
 {
     let end = samples.len() / 2;
-    let mut p = place;
-    let mut at = from;
-    let mut made = 0;
-    while at < end {
+    let mut t = Fronted {
+        place,
+        used: 0,
+        made: 0,
+    };
+    while from + t.used < end {
+        let made = t.made;
         if 254 < made {
             break;
         }
-        let r = p.resampler;
-        let s = draw(p, conjugated, samples, at);
-        let output = s.output;
-        let l = offered(
-            r,
-            made,
-            output,
+        t = advance(
+            t,
+            conjugated,
+            samples,
+            from,
             table,
             &mut *ring_real,
             &mut *ring_imaginary,
             &mut *row_real,
             &mut *row_imaginary,
         );
-        let oscillator = s.oscillator;
-        let decimator = s.decimator;
-        let resampler = l.resampler;
-        p = FrontPlace {
-            oscillator,
-            decimator,
-            resampler,
-        };
-        at = at + s.run;
-        made = l.made;
     }
-    Fronted {
-        place: p,
-        used: at - from,
-        made,
-    }
+    t
 }

@@ -1,0 +1,42 @@
+-- `front::several` meets its contract. Assumes nothing.
+use borrow.Author.Needs.{needs}
+use Rattle.front.specs.Runs.{waits-is, whole-is}
+use Rattle.front.proofs.several.Statement.{statement}
+use Rattle.front.proofs.several.Tie as tie
+
+sub-needed : tie.Need-sub-needed
+sub-needed c = search needs
+
+sub-least : tie.Need-sub-least
+sub-least c = search needs
+
+least-requires : tie.Need-least-requires
+least-requires c κs = search needs
+
+gather-requires : tie.Need-gather-requires
+gather-requires c κs = search needs
+
+add-t22 : tie.Need-add-t22
+add-t22 c = search needs
+
+returns : tie.Need-returns
+returns c = waits-is _ _ _ _ (c .before .before .before .before .before .before .before .before .before .before .before .before .pre .0) (c .before .before .before .before .before .before .before .before .before .before .before .before .pre .1 .0) _ _ _ (c .before .before .before .before .before .before .least .ensures) (c .before .before .before .before .before .gather .ensures) (c .before .before .if1 .taken)
+
+decimate-requires : tie.Need-decimate-requires
+decimate-requires c κs = search needs
+
+returns-2 : tie.Need-returns-2
+returns-2 c = whole-is _ _ _ _ (c .before .before .before .before .before .before .before .before .before .before .before .before .before .pre .0) (c .before .before .before .before .before .before .before .before .before .before .before .before .before .pre .1 .0) _ _ _ (c .before .before .before .before .before .before .before .least .ensures) (c .before .before .before .before .before .before .gather .ensures) _ (c .before .before .before .if1 .left) (c .before .before .decimate .ensures)
+
+pub several-spec : {M : Type 1} → statement M
+several-spec =
+    tie.close
+    (tie.spec
+    sub-needed
+    sub-least
+    least-requires
+    gather-requires
+    add-t22
+    returns
+    decimate-requires
+    returns-2)
