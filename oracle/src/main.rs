@@ -24,6 +24,7 @@ mod routines;
 mod accuracy;
 mod admitted;
 mod calls;
+mod chain_list;
 mod chosen;
 mod clock_list;
 mod equalizer_list;
@@ -33,6 +34,7 @@ mod generator;
 mod help;
 mod helpers;
 mod list;
+mod made;
 mod numbers;
 mod options;
 mod oscillator_list;
@@ -44,6 +46,7 @@ mod resampler_list;
 mod routine_list;
 mod samples;
 mod selftest;
+mod sequence_list;
 mod state;
 mod table;
 mod tables;
@@ -82,11 +85,13 @@ fn run(words: &[&str]) -> Outcome {
         ["view", rest @ ..] => view_list::run(rest),
         ["equalizer", rest @ ..] => equalizer_list::run(rest),
         ["decimator", rest @ ..] => decimator_list::run(rest),
+        ["chain", rest @ ..] => chain_list::run(rest),
         ["clock", rest @ ..] => clock_list::run(rest),
+        ["front", rest @ ..] => front_list::run(rest),
         ["oscillator", rest @ ..] => oscillator_list::run(rest),
+        ["sequence", rest @ ..] => sequence_list::run(rest),
         ["tables", rest @ ..] => tables::run(rest),
         ["resampler", rest @ ..] => resampler_list::run(rest),
-        ["front", rest @ ..] => front_list::run(rest),
         ["taps", rest @ ..] => taps::run(rest),
         ["selftest", rest @ ..] => selftest::run(rest),
         _ => Err("no such subcommand; oracle/run help lists them".into()),

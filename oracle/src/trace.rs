@@ -95,6 +95,12 @@ pub fn traced(d: &mut Demodulator, samples: &[Complex32], print: &mut Print) -> 
     decisions
 }
 
+/// The values that a sample makes due.
+pub fn front(d: &mut Demodulator, sample: Complex32) -> Vec<Complex32> {
+    let sample = mixed(d, sample);
+    resampled(&mut d.resampler, sample, &mut |_, _| {})
+}
+
 /// A sample turned by the oscillator, which then turns itself.
 pub fn mixed(d: &mut Demodulator, sample: Complex32) -> Complex32 {
     let (x, y) = (sample.real as f64, sample.imaginary as f64);

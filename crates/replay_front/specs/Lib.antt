@@ -1,1 +1,1 @@
-pub mod Clean
+pub mod Sound

@@ -1,37 +1,29 @@
 -- `replay_front::main` ends: fewer runs are left at each turn. Assumes nothing.
-use borrow.Author.Needs.{needs}
 use Prim.Native.Nat.{_≤_}
-use mathlib.Core.Path.{_≡_}
-use lib.ListN.{length}
+use borrow.Author.Needs.{needs}
 use Rattle.replay_front.proofs.main.Statement.{statement}
 use Rattle.replay_front.proofs.main.Tie as tie
 
 abbrev Inv-loop : tie.InvT-loop
-Inv-loop record₀ left₀ «record» left = (left ≤ 1000000) × (length «record» ≡ 32)
+Inv-loop left₀ left = left ≤ 1000000
 
 abbrev μ-loop : tie.MeasureT-loop
-μ-loop record₀ left₀ «record» left = left
+μ-loop left₀ left = left
 
 loop-holds : tie.Need-loop-holds Inv-loop μ-loop
 loop-holds c = search needs
 
-slice-aggregate-read-full : tie.Need-slice-aggregate-read-full Inv-loop μ-loop
-slice-aggregate-read-full c = search needs
+answered-requires : tie.Need-answered-requires Inv-loop μ-loop
+answered-requires c κs = search needs
 
-read-full-requires : tie.Need-read-full-requires Inv-loop μ-loop
-read-full-requires c κs = search needs
+sub-left : tie.Need-sub-left Inv-loop μ-loop
+sub-left c = search needs
 
 loop-less : tie.Need-loop-less Inv-loop μ-loop
 loop-less c = search needs
 
 loop-again : tie.Need-loop-again Inv-loop μ-loop
 loop-again c = search needs
-
-answer-requires : tie.Need-answer-requires Inv-loop μ-loop
-answer-requires c κs = search needs
-
-sub-left : tie.Need-sub-left Inv-loop μ-loop
-sub-left c = search needs
 
 loop-less-2 : tie.Need-loop-less-2 Inv-loop μ-loop
 loop-less-2 c = search needs
@@ -49,12 +41,10 @@ main-spec =
     Inv-loop
     μ-loop
     loop-holds
-    slice-aggregate-read-full
-    read-full-requires
+    answered-requires
+    sub-left
     loop-less
     loop-again
-    answer-requires
-    sub-left
     loop-less-2
     loop-again-2
     returns)

@@ -1,14 +1,14 @@
--- `replay_front::mixed_row` is safe and ends. Assumes nothing.
-use borrow.Author.Needs.{needs}
+-- `replay_front::mixed_row` is safe and ends: as many turns as the row has values. Assumes nothing.
 use Prim.Native.Nat.{_-_, _≤_}
+use borrow.Author.Needs.{needs}
 use Rattle.replay_front.proofs.mixed_row.Statement.{statement}
 use Rattle.replay_front.proofs.mixed_row.Tie as tie
 
 abbrev Inv-loop : tie.InvT-loop
-Inv-loop digest row-real row-imaginary made h₀ i₀ h i = i ≤ made
+Inv-loop h real imaginary made d₀ i₀ d i = i ≤ made
 
 abbrev μ-loop : tie.MeasureT-loop
-μ-loop digest row-real row-imaginary made h₀ i₀ h i = made - i
+μ-loop h real imaginary made d₀ i₀ d i = made - i
 
 loop-holds : tie.Need-loop-holds Inv-loop μ-loop
 loop-holds c = search needs
