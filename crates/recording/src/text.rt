@@ -1,96 +1,134 @@
-// The report's lines, as bytes into what is lent.
+// What a program over a recording writes: each function stores its text from a place on in the bytes
+// lent, and gives the place after it.
 ghost use mathlib.Core.Path.{_≡_};
-ghost use Prim.Native.Nat.{_+_, _*_, _<_, _≤_};
-ghost use mathlib.Core.List.{[], _∷_};
+ghost use Prim.Native.Nat.{_+_, _*_, _≤_};
 ghost use lib.ListN.{length};
-ghost use Rattle.recording.specs.Text.{Text, written, byteText, lineOf, linesOf, refusedName, refusedOf};
+ghost use Rattle.recording.specs.Text.{writtenOf, put, decimalOf, endedOf, lineOf, linesOf, fieldOf, flagOf, closingOf, refusedOf};
 
-// One byte.
-fn put(c: u8, out: &mut [u8], at: usize) -> usize
-    requires { ⌜ at < length (now out) ⌝ }
-    ensures same { λ r. ⌜ _≡_ {A = Text} (record { out = now (out .exit); end = r }) (written (now (out .entry)) at (c ∷ [])) ⌝ }
-    ensures one { λ r. ⌜ (r ≡ at + 1) × (length (now (out .exit)) ≡ length (now (out .entry))) ⌝ }
-{
-    out[at] = c;
-    at + 1
+// What the closing lines tell: dibits delivered, those of them under lock, whether the carrier is
+// locked now, and samples that were overloaded.
+pub struct Totals {
+    pub symbols: u64,
+    pub locked: u64,
+    pub lock: bool,
+    pub overload: u64,
 }
 
-// A byte's digits, without zeros in front.
-fn put_byte(n: u8, out: &mut [u8], at: usize) -> usize
-    requires { ⌜ at + 3 ≤ length (now out) ⌝ }
-    ensures same { λ r. ⌜ _≡_ {A = Text} (record { out = now (out .exit); end = r }) (written (now (out .entry)) at (byteText n)) ⌝ }
-    ensures few { λ r. ⌜ (r ≤ at + 3) × (length (now (out .exit)) ≡ length (now (out .entry))) ⌝ }
+// A text as it stands.
+fn copied(text: &[u8], out: &mut [u8], at: usize) -> usize
+    requires { ⌜ at + length (now text) ≤ length (now out) ⌝ }
+    ensures { λ r. ⌜ writtenOf r (now (out .exit)) ≡ put (now (text .entry)) (writtenOf at (now (out .entry))) ⌝ }
 {
-    if n < 10 {
-        return put(48 + n, out, at);
-    }
-    if n < 100 {
-        let a = put(48 + n / 10, &mut *out, at);
-        return put(48 + n % 10, out, a);
-    }
-    let a = put(48 + n / 100, &mut *out, at);
-    let b = put(48 + n / 10 % 10, &mut *out, a);
-    put(48 + n % 10, out, b)
-}
-
-// A dibit's line: its value, its first reliability, its second.
-fn line(dibit: u8, first: u8, second: u8, out: &mut [u8], at: usize) -> usize
-    requires { ⌜ at + 12 ≤ length (now out) ⌝ }
-    ensures same { λ r. ⌜ _≡_ {A = Text} (record { out = now (out .exit); end = r }) (written (now (out .entry)) at (lineOf dibit first second)) ⌝ }
-    ensures few { λ r. ⌜ (r ≤ at + 12) × (length (now (out .exit)) ≡ length (now (out .entry))) ⌝ }
-{
-    let a = put_byte(dibit, &mut *out, at);
-    let b = put(32, &mut *out, a);
-    let c = put_byte(first, &mut *out, b);
-    let d = put(32, &mut *out, c);
-    let e = put_byte(second, &mut *out, d);
-    put(10, out, e)
-}
-
-// The lines of the first `count` dibits; gives how many bytes they are.
-pub fn lines(dibits: &[u8], reliabilities: &[u8], count: usize, out: &mut [u8]) -> usize
-    requires { ⌜ count ≤ length (now dibits) ⌝ }
-    requires { ⌜ 2 * count ≤ length (now reliabilities) ⌝ }
-    requires { ⌜ 12 * count ≤ length (now out) ⌝ }
-    ensures { λ r. ⌜ _≡_ {A = Text} (record { out = now (out .exit); end = r }) (written (now (out .entry)) 0 (linesOf (now (dibits .entry)) (now (reliabilities .entry)) count)) ⌝ }
-{
-    let mut at = 0;
     let mut i = 0;
-    while i < count {
-        at = line(
+    while i < text.len() {
+        out[at + i] = text[i];
+        i += 1;
+    }
+    at + text.len()
+}
+
+// A number in decimal.
+fn decimal(n: u64, out: &mut [u8], at: usize) -> usize
+    requires { ⌜ at + length (decimalOf n) ≤ length (now out) ⌝ }
+    ensures { λ r. ⌜ writtenOf r (now (out .exit)) ≡ put (decimalOf n) (writtenOf at (now (out .entry))) ⌝ }
+{
+    let mut digits = [0u8; 20];
+    let k = io::decimal(n, &mut digits);
+    copied(&digits[..k], out, at)
+}
+
+// A number in decimal and the character that ends it.
+fn ended(n: u64, end: u8, out: &mut [u8], at: usize) -> usize
+    requires { ⌜ at + length (endedOf n end) ≤ length (now out) ⌝ }
+    ensures { λ r. ⌜ writtenOf r (now (out .exit)) ≡ put (endedOf n end) (writtenOf at (now (out .entry))) ⌝ }
+{
+    let after = decimal(n, &mut *out, at);
+    out[after] = end;
+    after + 1
+}
+
+// A byte in decimal and the character that ends it.
+fn byte(n: u8, end: u8, out: &mut [u8], at: usize) -> usize
+    requires { ⌜ at + 4 ≤ length (now out) ⌝ }
+    ensures same { λ r. ⌜ writtenOf r (now (out .exit)) ≡ put (endedOf n end) (writtenOf at (now (out .entry))) ⌝ }
+    ensures near { λ r. ⌜ r ≤ at + 4 ⌝ }
+    ensures kept { λ _. ⌜ length (now (out .exit)) ≡ length (now (out .entry)) ⌝ }
+{
+    ended(n as u64, end, out, at)
+}
+
+// A dibit's line: value, first reliability, second.
+pub fn line(value: u8, first: u8, second: u8, out: &mut [u8], at: usize) -> usize
+    requires { ⌜ at + 12 ≤ length (now out) ⌝ }
+    ensures same { λ r. ⌜ writtenOf r (now (out .exit)) ≡ put (lineOf value first second) (writtenOf at (now (out .entry))) ⌝ }
+    ensures near { λ r. ⌜ r ≤ at + 12 ⌝ }
+    ensures kept { λ _. ⌜ length (now (out .exit)) ≡ length (now (out .entry)) ⌝ }
+{
+    let a = byte(value, b' ', &mut *out, at);
+    let b = byte(first, b' ', &mut *out, a);
+    byte(second, b'\n', out, b)
+}
+
+// The lines of the first n dibits, each with two reliabilities.
+pub fn lines(dibits: &[u8], reliabilities: &[u8], n: usize, out: &mut [u8], at: usize) -> usize
+    requires { ⌜ n ≤ length (now dibits) ⌝ }
+    requires { ⌜ 2 * n ≤ length (now reliabilities) ⌝ }
+    requires { ⌜ at + 12 * n ≤ length (now out) ⌝ }
+    ensures same { λ r. ⌜ writtenOf r (now (out .exit)) ≡ put (linesOf (now (dibits .entry)) (now (reliabilities .entry)) n) (writtenOf at (now (out .entry))) ⌝ }
+    ensures near { λ r. ⌜ r ≤ at + 12 * n ⌝ }
+    ensures kept { λ _. ⌜ length (now (out .exit)) ≡ length (now (out .entry)) ⌝ }
+{
+    let mut after = at;
+    let mut i = 0;
+    while i < n {
+        after = line(
             dibits[i],
             reliabilities[2 * i],
             reliabilities[2 * i + 1],
             &mut *out,
-            at,
+            after,
         );
         i += 1;
     }
-    at
+    after
 }
 
-// `refused ` at the start.
-fn put_name(out: &mut [u8])
-    requires { ⌜ 8 ≤ length (now out) ⌝ }
-    ensures same { λ _. ⌜ _≡_ {A = Text} (record { out = now (out .exit); end = 8 }) (written (now (out .entry)) 0 refusedName) ⌝ }
-    ensures size { λ _. ⌜ length (now (out .exit)) ≡ length (now (out .entry)) ⌝ }
+// A word and a number on a line of their own.
+fn field(word: &[u8], n: u64, out: &mut [u8], at: usize) -> usize
+    requires { ⌜ at + (length (now word) + 21) ≤ length (now out) ⌝ }
+    ensures same { λ r. ⌜ writtenOf r (now (out .exit)) ≡ put (fieldOf (now (word .entry)) n) (writtenOf at (now (out .entry))) ⌝ }
+    ensures near { λ r. ⌜ r ≤ at + (length (now (word .entry)) + 21) ⌝ }
+    ensures kept { λ _. ⌜ length (now (out .exit)) ≡ length (now (out .entry)) ⌝ }
 {
-    out[0] = 114;
-    out[1] = 101;
-    out[2] = 102;
-    out[3] = 117;
-    out[4] = 115;
-    out[5] = 101;
-    out[6] = 100;
-    out[7] = 32;
+    let after = copied(word, &mut *out, at);
+    ended(n, b'\n', out, after)
 }
 
-// `refused N`.
-pub fn refused(number: u8, out: &mut [u8]) -> usize
-    requires { ⌜ 12 ≤ length (now out) ⌝ }
-    ensures { λ r. ⌜ _≡_ {A = Text} (record { out = now (out .exit); end = r }) (written (now (out .entry)) 0 (refusedOf number)) ⌝ }
+fn flag(b: bool) -> u64
+    ensures { λ r. ⌜ r ≡ flagOf b ⌝ }
 {
-    put_name(&mut *out);
-    let a = put_byte(number, &mut *out, 8);
-    put(10, out, a)
+    if b { 1 } else { 0 }
+}
+
+// The four closing lines.
+pub fn closing(t: Totals, out: &mut [u8], at: usize) -> usize
+    requires { ⌜ at + 120 ≤ length (now out) ⌝ }
+    ensures same { λ r. ⌜ writtenOf r (now (out .exit)) ≡ put (closingOf t) (writtenOf at (now (out .entry))) ⌝ }
+    ensures near { λ r. ⌜ r ≤ at + 120 ⌝ }
+    ensures kept { λ _. ⌜ length (now (out .exit)) ≡ length (now (out .entry)) ⌝ }
+{
+    let a = field(b"symbols ", t.symbols, &mut *out, at);
+    let b = field(b"locked ", t.locked, &mut *out, a);
+    let c = field(b"lock ", flag(t.lock), &mut *out, b);
+    field(b"overload ", t.overload, out, c)
+}
+
+// The line of a refusal.
+pub fn refused(n: u32, out: &mut [u8], at: usize) -> usize
+    requires { ⌜ at + 30 ≤ length (now out) ⌝ }
+    ensures same { λ r. ⌜ writtenOf r (now (out .exit)) ≡ put (refusedOf n) (writtenOf at (now (out .entry))) ⌝ }
+    ensures near { λ r. ⌜ r ≤ at + 30 ⌝ }
+    ensures kept { λ _. ⌜ length (now (out .exit)) ≡ length (now (out .entry)) ⌝ }
+{
+    field(b"refused ", n as u64, out, at)
 }

@@ -1,22 +1,22 @@
 -- `recording::text::lines` meets its contract. Assumes nothing.
-use Rattle.recording.specs.Laws.{more, nothing, lines-more, lines-end}
-use mathlib.Core.Path.{_≡_, refl, ap, _∙_}
-use Prim.Native.Nat.{_-_, _*_, _≤_}
+use mathlib.Core.Path.{_≡_, refl}
+use Prim.Native.Nat.{_+_, _-_, _*_, _≤_}
 use lib.ListN.{length}
-use Rattle.recording.specs.Text.{Text, written, linesOf}
+use Rattle.recording.specs.Text.{writtenOf, put, linesOf}
+use Rattle.recording.specs.TextLaws.{lines-start, lines-step, lines-end}
 use borrow.Author.Needs.{needs}
 use Rattle.recording.proofs.text.lines.Statement.{statement}
 use Rattle.recording.proofs.text.lines.Tie as tie
 
 abbrev Inv-loop : tie.InvT-loop
-Inv-loop dibits reliabilities count out₀ at₀ i₀ out at i = (i ≤ count) × (at ≤ 12 * i) × (length out ≡ length out₀) × (_≡_ {A = Text} (record { out = out; end = at }) (written out₀ 0 (linesOf dibits reliabilities i)))
+Inv-loop dibits reliabilities n out₀ at after₀ i₀ out after i =
+    (i ≤ n) × (length out ≡ length out₀) × (after ≤ after₀ + 12 * i) × (writtenOf after out ≡ put (linesOf dibits reliabilities i) (writtenOf after₀ out₀))
 
 abbrev μ-loop : tie.MeasureT-loop
-μ-loop dibits reliabilities count out₀ at₀ i₀ out at i = count - i
+μ-loop dibits reliabilities n out₀ at after₀ i₀ out after i = n - i
 
 loop-holds : tie.Need-loop-holds Inv-loop μ-loop
-unfolding linesOf
-loop-holds c = (search needs, search needs, refl, nothing _)
+loop-holds c = (search needs, refl, search needs, lines-start _ _ _ _)
 
 shared-slice-read-line : tie.Need-shared-slice-read-line Inv-loop μ-loop
 shared-slice-read-line c = search needs
@@ -46,13 +46,13 @@ loop-less : tie.Need-loop-less Inv-loop μ-loop
 loop-less c = search needs
 
 loop-again : tie.Need-loop-again Inv-loop μ-loop
-loop-again c = (search needs, search needs, search needs, more _ _ _ _ _ _ (c .before .before .line .ensures .0) (c .before .before .before .before .before .before .before .before .loop .inv .3) ∙ ap (written _ _) (lines-more _ _ _))
+loop-again c = (search needs, search needs, search needs, lines-step _ _ _ _ _ _ (c .before .before .before .before .before .before .before .before .loop .inv .3) (c .before .before .line .ensures .0))
 
 same-length : tie.Need-same-length Inv-loop μ-loop
 same-length c = search needs
 
 returns : tie.Need-returns Inv-loop μ-loop
-returns c = lines-end _ _ _ _ _ _ (c .before .loop .inv .3) (search needs) (search needs)
+returns c = (lines-end _ _ _ _ _ _ (c .before .loop .inv .3) (search needs) (search needs), (search needs, search needs))
 
 pub lines-spec : {M : Type 1} → statement M
 lines-spec =
