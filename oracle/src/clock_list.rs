@@ -106,7 +106,7 @@ const FRESH: Place = Place {
     rate: 0.0,
 };
 
-const PHASES: [f32; 14] = [
+pub const PHASES: [f32; 14] = [
     -16.0,
     -15.999_999,
     -1.0,
@@ -123,9 +123,9 @@ const PHASES: [f32; 14] = [
     f32::NAN,
 ];
 
-const RATES: [f32; 5] = [0.1, -0.1, 0.0, -1e-3, f32::NAN];
+pub const RATES: [f32; 5] = [0.1, -0.1, 0.0, -1e-3, f32::NAN];
 
-const STRANGE: [f32; 8] = [
+pub const STRANGE: [f32; 8] = [
     f32::NAN,
     f32::INFINITY,
     f32::NEG_INFINITY,
@@ -193,29 +193,12 @@ impl List {
         }
     }
 
-    /// Quarter turns of a carrier with the pulses of the matched filter, sampled four times a
-    /// symbol by a clock that is `drift` off.
+    /// A signal that is `drift` off, from a phase.
     fn signal(&mut self, count: usize, drift: f64, phase: f32) {
         self.hand(Place { phase, ..FRESH });
         self.equalizer = Equalizer::default();
-        let mut eighths = 0;
-        let symbols: Vec<(f64, f64)> = (0..count / 4 + 24)
-            .map(|_| {
-                eighths = (eighths + 1 + 2 * self.random.below(4)) % 8;
-                let angle = PI / 4.0 * eighths as f64;
-                (cosine(angle), sine(angle))
-            })
-            .collect();
-        for n in 0..count {
-            let time = n as f64 / 4.0 * (1.0 + drift);
-            let near = time as usize;
-            let (mut real, mut imaginary) = (0.0, 0.0);
-            for (k, symbol) in symbols.iter().enumerate().skip(near).take(16) {
-                let weight = pulse(time + 8.0 - k as f64);
-                real += weight * symbol.0;
-                imaginary += weight * symbol.1;
-            }
-            self.step(real as f32, imaginary as f32, None);
+        for value in signal(&mut self.random, count, drift) {
+            self.step(value.real, value.imaginary, None);
         }
     }
 
@@ -302,6 +285,35 @@ impl List {
             }
         }
     }
+}
+
+/// Quarter turns of a carrier with the pulses of the matched filter, sampled four times a symbol by a
+/// clock that is `drift` off.
+pub fn signal(random: &mut Random, count: usize, drift: f64) -> Vec<Complex32> {
+    let mut eighths = 0;
+    let symbols: Vec<(f64, f64)> = (0..count / 4 + 24)
+        .map(|_| {
+            eighths = (eighths + 1 + 2 * random.below(4)) % 8;
+            let angle = PI / 4.0 * eighths as f64;
+            (cosine(angle), sine(angle))
+        })
+        .collect();
+    (0..count)
+        .map(|n| {
+            let time = n as f64 / 4.0 * (1.0 + drift);
+            let near = time as usize;
+            let (mut real, mut imaginary) = (0.0, 0.0);
+            for (k, symbol) in symbols.iter().enumerate().skip(near).take(16) {
+                let weight = pulse(time + 8.0 - k as f64);
+                real += weight * symbol.0;
+                imaginary += weight * symbol.1;
+            }
+            Complex32 {
+                real: real as f32,
+                imaginary: imaginary as f32,
+            }
+        })
+        .collect()
 }
 
 /// The root-raised-cosine pulse with roll-off 0.2 at a time in symbols.

@@ -57,6 +57,15 @@ const AFTER_STAGES: &str = "
       place after it and of a sample's windows
   oscillator inputs > LIST | oscillator answers < LIST
       runs of the mixer; a line per run, the digest of its samples and oscillators
+  front inputs > LIST | front answers < LIST
+      runs of mixer, decimator and resampler together; a line per run, the digest of its values and
+      its last state
+  chain inputs > LIST | chain answers < LIST
+      rows of values for the chain, from fresh and from states made from seeds; a line per row, the
+      digest of its dibits and of the whole state after it
+  sequence inputs > LIST | sequence answers < LIST
+      runs of the detector, from fresh and from states made from seeds; a line per step, the digest of
+      its answer and of the whole state after it
   tables source | tables bits
       crates/taps/src/table.rt and crates/taps/specs/TapBits.antt, as oracle/check-tables wants them
 

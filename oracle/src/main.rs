@@ -25,14 +25,17 @@ mod accuracy;
 mod admitted;
 mod bench;
 mod calls;
+mod chain_list;
 mod chosen;
 mod clock_list;
 mod equalizer_list;
 mod decimator_list;
+mod front_list;
 mod generator;
 mod help;
 mod helpers;
 mod list;
+mod made;
 mod numbers;
 mod options;
 mod oscillator_list;
@@ -46,6 +49,7 @@ mod samples;
 mod script;
 mod script_writer;
 mod selftest;
+mod sequence_list;
 mod state;
 mod table;
 mod tables;
@@ -84,8 +88,11 @@ fn run(words: &[&str]) -> Outcome {
         ["view", rest @ ..] => view_list::run(rest),
         ["equalizer", rest @ ..] => equalizer_list::run(rest),
         ["decimator", rest @ ..] => decimator_list::run(rest),
+        ["chain", rest @ ..] => chain_list::run(rest),
         ["clock", rest @ ..] => clock_list::run(rest),
+        ["front", rest @ ..] => front_list::run(rest),
         ["oscillator", rest @ ..] => oscillator_list::run(rest),
+        ["sequence", rest @ ..] => sequence_list::run(rest),
         ["tables", rest @ ..] => tables::run(rest),
         ["resampler", rest @ ..] => resampler_list::run(rest),
         ["taps", rest @ ..] => taps::run(rest),

@@ -16,11 +16,11 @@ use crate::samples::word64;
 use crate::Complex32;
 use std::io::{self, BufWriter, Read, Write};
 
-const RATES: [f64; 8] = [
+pub const RATES: [f64; 8] = [
     9600.0, 10929.0, 48000.0, 256000.0, 341000.0, 384000.0, 2.4e6, 2e7,
 ];
 const DESIGNED: [f64; 7] = [9600.0, 10929.0, 48000.0, 256000.0, 383999.0, 384000.0, 2e7];
-const KINDS: u64 = 4;
+pub const KINDS: u64 = 4;
 const MOST: u64 = 1 << 52;
 const WORDS: usize = 8;
 
@@ -81,7 +81,7 @@ fn runs(random: &mut Random) -> Vec<Run> {
             runs.push(plain(1, rate, kind, count as u64));
         }
     }
-    for rate in [9600.0, 48000.0, 341000.0, 384000.0, 2.4e6] {
+    for rate in RATES {
         for step in [0.5, 20.0, 0.5 + random.below(1 << 20) as f64 / 65536.0] {
             for room in [MOST, MOST / 32, 1 << 47, 5000] {
                 runs.push(handed_in(random, rate, step, room));
@@ -243,7 +243,7 @@ fn outputs(r: &mut Resampler, run: &Run) -> Vec<Vec<Complex32>> {
 }
 
 /// Moderate; far above 1; huge; any pattern.
-fn sample_part(s: u64, kind: u64) -> f32 {
+pub fn sample_part(s: u64, kind: u64) -> f32 {
     let unit = (s >> 40) as f32 / 8388608.0 - 1.0;
     match kind {
         0 => unit,

@@ -95,8 +95,14 @@ pub fn traced(d: &mut Demodulator, samples: &[Complex32], print: &mut Print) -> 
     decisions
 }
 
+/// The values that a sample makes due.
+pub fn front(d: &mut Demodulator, sample: Complex32) -> Vec<Complex32> {
+    let sample = mixed(d, sample);
+    resampled(&mut d.resampler, sample, &mut |_, _| {})
+}
+
 /// A sample turned by the oscillator, which then turns itself.
-fn mixed(d: &mut Demodulator, sample: Complex32) -> Complex32 {
+pub fn mixed(d: &mut Demodulator, sample: Complex32) -> Complex32 {
     let (x, y) = (sample.real as f64, sample.imaginary as f64);
     let (c, s) = (d.oscillator_real, d.oscillator_imaginary);
     let (real, imaginary) = (x * c - y * s, x * s + y * c);

@@ -13,12 +13,18 @@ use Rattle.sequence.specs.Sequence as Sequence
 use Rattle.sequence.specs.Steps.{detected-ranged}
 use Rattle.carrier.specs.declared.Loop.{Loop}
 use Rattle.carrier.specs.declared.CarrierPlace.{CarrierPlace}
-use Rattle.carrier.specs.declared.Carried.{Carried}
-use Rattle.carrier.specs.Carrier.{Run, correctedOf, turnedOf, carriedWith, carriedOf}
+use Rattle.carrier.specs.Carrier.{Run, correctedOf, phaseErrorOf, frequencyOf, phaseOf, errorOf, lockedOf, turnedOf, carriedWith, carriedOf}
 use Rattle.carrier.specs.Ranges.{Ranged}
 
 abbrev pub RunRanged : Run → Type 0
 RunRanged r = Ranged (r .carried .place) (r .channels .real) (r .channels .imaginary) (r .costs) (r .parents)
+
+-- the loop's turn from its parts
+pub turned-is : (l : Loop) (phase power : Float) (reliable : Bool) (e frequency error after : Float) (locked : Bool)
+    → e ≡ phaseErrorOf phase → frequency ≡ frequencyOf (l .frequency) e → error ≡ errorOf (l .error) power → after ≡ phaseOf (l .phase) frequency e → locked ≡ lockedOf reliable error
+    → _≡_ {A = Loop} (record { phase = after; frequency = frequency; alternation = (l .alternation + 1) % 8; locked = locked; error = error }) (turnedOf l phase power reliable)
+unfolding turnedOf
+turned-is l phase power reliable e frequency error after locked is-e is-frequency is-error is-after is-locked = rw (is-locked, is-after, is-error, is-frequency, is-e)
 
 pub step-is : (c : CarrierPlace) (z input : Complex32) (reliable : Bool) (oldest : Soft) (channels : Planes) (costs : List Float) (parents : List ℕ) (d : Sequence.Run) (turn : Loop)
     → input ≡ correctedOf (c .turn) z → d ≡ Sequence.detectedOf (c .detector) input reliable oldest channels costs parents

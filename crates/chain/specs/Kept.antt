@@ -1,11 +1,12 @@
 -- Admitted in, admitted out: every step keeps the chain's ranges, and counts at most one symbol. Assumes nothing.
 use mathlib.Core.Path.{_≡_, refl, sym, ap, subst}
-use Prim.Native.Nat.{ℕ, _+_, _%_, _≤_, _<_, min}
+use Prim.Native.Nat.{ℕ, _+_, _%_, _≤_}
 use native.Mathlib.Nat.{mod-lt}
 use native.Mathlib.Omega.{arith}
-use mathlib.Core.Bool.{Bool, true, false, cond, not, _&&_}
+use mathlib.Core.Bool.{Bool, true, false, cond, not}
 use mathlib.Core.List.{List}
 use lib.Dec.{T, ltb}
+use lib.IntN.{ℤ}
 use lib.ListN.{length, length-set}
 use lib.Ieee.{Float, binary32, ofBits, neg, lt}
 use borrow.Author.Tests.{ltb-true}
@@ -20,18 +21,20 @@ use Rattle.clock.specs.declared.Answer.{Answer}
 use Rattle.clock.specs.declared.Answer.the-variants.{NoSymbol, Symbol}
 use Rattle.clock.specs.Clock as Clock
 use Rattle.clock.specs.Ranges.{ErrorFits, Admitted, After}
-use Rattle.clock.specs.Laws.{after-of, stepped-place, update-kept}
+use Rattle.clock.specs.Laws.{fresh-admitted, after-of, stepped-place, update-kept}
 use Rattle.clock.specs.AdmittedLaws.{within-from}
 use Rattle.equalizer.specs.Equalizer as Equalizer
 use Rattle.equalizer.specs.Laws.{timing-not-below, timing-not-above}
+use Rattle.tracker.specs.Tracker.{Planes}
 use Rattle.sequence.specs.declared.soft.Soft.{Soft}
+use Rattle.sequence.specs.Sequence as Sequence
+use Rattle.sequence.specs.Ranges as Detector
 use Rattle.carrier.specs.Carrier as Carrier
 use Rattle.carrier.specs.Ranges as Carried
 use Rattle.carrier.specs.Laws.{carried-ranged}
 use Rattle.signal.specs.Signal as Signal
-use Rattle.chain.specs.Labels.{countedOf}
-use Rattle.chain.specs.LabelLaws.{count-most, count-least, count-within}
-use Rattle.chain.specs.Chain.{ChainState, Step, toldOf, heardOf, withKeeper, withClock, clockRun, symbolOf, levelOf, steppedOf}
+use Rattle.chain.specs.LabelLaws.{count-within}
+use Rattle.chain.specs.Chain.{freshPlace, ChainState, Step, toldOf, heardOf, withKeeper, withClock, clockRun, symbolOf, levelOf, steppedOf}
 use Rattle.chain.specs.Ranges.{KeeperRanged, ViewRanged, Ranged}
 
 -- ---- the keeper
@@ -102,3 +105,15 @@ module _ (taps derivatives : List Float) where
   pub with-ranges : {A : Type 0} (s : ChainState) (z : Complex32) (oldest : Soft) (r : Step) → r ≡ steppedOf taps derivatives s z oldest → Ranged s → A
       → (r ≡ steppedOf taps derivatives s z oldest) × (Ranged (r .state) × A)
   with-ranges s z oldest r e h a = (e, (subst (λ (r : Step). Ranged (r .state)) (sym e) (stepped-ranged s z oldest h), a))
+
+-- A FRESH CHAIN is in range, whatever its planes hold, where the detector's are
+pub fresh-ranged : (profile : ℤ) (keeper : Peak.Ring) (clock : Planes) (weights : Equalizer.Row) (channels : Planes) (costs : List Float) (parents : List ℕ) (view : Planes)
+    → length (keeper .real) ≡ 64 → length (keeper .imaginary) ≡ 64 → Detector.Ranged Sequence.freshPlace (channels .real) (channels .imaginary) costs parents
+    → Ranged (record { place = freshPlace profile; keeper = keeper; clock = clock; weights = weights; channels = channels; costs = costs; parents = parents; view = view })
+fresh-ranged profile keeper clock weights channels costs parents view r i d = record {
+  keeper = record { head = omega arith; fill = omega arith; real-size = r; imaginary-size = i };
+  clock = fresh-admitted;
+  carrier = record { alternation = omega arith; detector = d };
+  view = record { head = omega arith; count = omega arith };
+  locked = omega arith;
+}

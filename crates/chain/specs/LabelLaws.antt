@@ -1,5 +1,5 @@
 -- A label's ways out, and how far a count goes. Assumes nothing.
-use Prim.Native.Nat.{ℕ, suc, zero, _+_, _≤_, _<_, min}
+use Prim.Native.Nat.{ℕ, suc, zero, _+_, _≤_, min}
 use native.Mathlib.Omega.{arith}
 use mathlib.Core.Path.{_≡_, refl, ap}
 use mathlib.Core.Bool.{Bool, true, false, cond}

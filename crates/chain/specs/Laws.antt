@@ -1,5 +1,5 @@
 -- The step's definition met from what its parts answer: one law for each way out of a function. Assumes nothing.
-use mathlib.Core.Path.{_≡_, refl, sym, ap, _∙_}
+use mathlib.Core.Path.{_≡_, sym, ap, _∙_}
 use Prim.Native.Nat.{ℕ, _<_}
 use mathlib.Core.Bool.{Bool, true}
 use mathlib.Core.List.{List}
@@ -28,7 +28,7 @@ use Rattle.chain.specs.declared.ChainPlace.{ChainPlace}
 use Rattle.chain.specs.declared.step.Outcome.the-variants.{Quiet, Heard}
 use Rattle.chain.specs.declared.step.Stepped.{Stepped}
 use Rattle.chain.specs.Labels.{conjugates, labelledOf, countedOf}
-use Rattle.chain.specs.Chain.{freshPlace, ChainState, Hearing, Step, movedPlace, toldOf, hearingWith, heardOf, waitingOf, withKeeper, withClock, withHearing, symbolOf, clockedWith, clockRun, levelOf, steppedWith, steppedOf}
+use Rattle.chain.specs.Chain.{freshPlace, ChainState, Hearing, Step, movedPlace, toldOf, heardOf, withKeeper, symbolOf, clockedWith, clockRun, levelOf, steppedWith, steppedOf}
 use Rattle.chain.specs.Ranges.{mostSymbols, Attends, Ranged}
 
 pub fresh-is : (keeper : KeeperPlace) (clock : ClockPlace) (carrier : CarrierPlace) (view : ViewPlace) (q profile : ℤ) → q ≡ profile

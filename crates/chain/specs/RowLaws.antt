@@ -1,7 +1,7 @@
 -- What the chain tells of a list of values: one dibit at most for each, a pair of reliabilities with each dibit, symbols the number of dibits; and rows in turn
 -- are one list. Assumes nothing.
 use mathlib.Core.Path.{_≡_, refl, sym, ap, _∙_, subst}
-use Prim.Native.Nat.{ℕ, zero, suc, _+_, _*_, _≤_, _<_}
+use Prim.Native.Nat.{ℕ, suc, _+_, _*_, _≤_, _<_}
 use native.Mathlib.Omega.{arith}
 use native.Mathlib.Numerals.{add-one}
 use mathlib.Core.Bool.{Bool, true, false}
@@ -31,8 +31,8 @@ use Rattle.chain.specs.declared.step.Outcome.{Outcome}
 use Rattle.chain.specs.declared.step.Outcome.the-variants.{Quiet, Heard}
 use Rattle.chain.specs.Labels.{conjugates, labelledOf, countedOf}
 use Rattle.chain.specs.Chain.{ChainState, Step, toldOf, heardOf, withKeeper, withClock, clockRun, symbolOf, levelOf, steppedOf}
-use Rattle.chain.specs.Rows.{answerDibits, answerPair, dibitsOf, pairOf, recordsAfter, Told, start, slotAt, nextOf, toldWith, told, ranOf, Room, laidIn, Lent, laidOver, valuesOf, chainOf, linkedWith, linkedOf}
-use Rattle.chain.specs.Ranges.{mostSymbols, Ranged, Roomy, Asks}
+use Rattle.chain.specs.Rows.{answerDibits, answerPair, dibitsOf, pairOf, recordsAfter, Told, start, slotAt, nextOf, told, ranOf, Room, laidIn, Lent, laidOver, valuesOf, chainOf, linkedWith, linkedOf}
+use Rattle.chain.specs.Ranges.{Ranged, Asks}
 use Rattle.chain.specs.Kept.{stepped-ranged}
 
 -- ---- one value: a dibit at most, a pair with it, and one symbol counted

@@ -1,8 +1,8 @@
 -- The front: each sample is mixed and decimated, and a decimated value goes into the ring and makes up to two values due. Definitions only.
 use Prim.Native.Nat.{ℕ, _+_, _-_, _*_, _/_}
 use Prim.Native.Nat as Nat
-use mathlib.Core.Bool.{Bool}
-use mathlib.Core.List.{List, _++_, map, foldl}
+use mathlib.Core.Bool.{Bool, cond}
+use mathlib.Core.List.{List, [], _++_, map, foldl}
 use lib.Dec.{ltb}
 use lib.ListN.{length, getD}
 use lib.Seq.{sets}
@@ -173,3 +173,14 @@ advancedOf conjugated table xs f = advancedWith table f (drawnOf conjugated xs (
 -- ---- the first n values of a row, as a list
 unfoldable pub rowed : List Float → List Float → ℕ → List Complex32
 rowed real imaginary n = upto (λ k. record { real = getD real k nan; imaginary = getD imaginary k nan }) n
+
+-- ---- the values that the k samples from sample n on make
+abbrev pub rungAt : Bool → List Float → List Float → ℕ → Rung → Rung
+rungAt conjugated table xs n r = frontOf conjugated table xs n (record { rung = r; values = [] }) .rung
+
+unfoldable pub madeOf : Bool → List Float → List Float → ℕ → ℕ → Rung → List Complex32
+madeOf conjugated table xs n k r = turns (λ i vs. vs ++ frontStep conjugated table (rungAt conjugated table xs (n + i) r) (sampleAt xs (n + i)) .values) k []
+
+-- how far the filters reach back, in samples, the first of them being the first after an output: c decimated values, and three outputs more until the combs are renewed
+abbrev pub reachOf : FrontPlace → ℕ
+reachOf p = cond (ltb 1 (p .decimator .decimation)) ((p .resampler .arm + 3) * p .decimator .decimation) (p .resampler .arm)

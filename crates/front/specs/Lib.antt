@@ -5,3 +5,4 @@ pub mod Laws
 pub mod Draws
 pub mod Steps
 pub mod Rows
+pub mod Forgets

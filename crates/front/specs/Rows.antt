@@ -1,22 +1,19 @@
 -- A call's row holds the values that the definition makes of its samples, in order: so calls one after the other, their rows read in turn, make the values of all the samples. Assumes nothing.
-use Prim.Native.Nat.{ℕ, zero, suc, _+_, _-_, _*_, _/_, _^_, _≤_, _<_}
-use native.Mathlib.Numerals.{add-one}
+use Prim.Native.Nat.{ℕ, zero, suc, _+_, _-_, _*_, _/_, _≤_, _<_}
 use native.Mathlib.Omega.{arith}
 use mathlib.Core.Path.{_≡_, refl, sym, ap, _∙_, subst}
 use mathlib.Core.Bool.{Bool, true, false}
 use mathlib.Core.List.{List, [], _∷_, _++_, append-assoc, append-nil, map}
 use lib.Dec.{ltb}
-use lib.ListN.{length, getD, set, length-set, length-map}
+use lib.ListN.{length, getD, set, length-set}
 use lib.Seq.{sets, length-sets, getD-set-same, getD-set-other}
 use lib.Ieee.{Float, nan}
 use borrow.Author.Tests.{ltb-true, ltb-false}
 use Rattle.laws.specs.Turns.{turns, until, turns-step}
 use Rattle.laws.specs.Places.{upto}
 use Rattle.complex.specs.declared.Complex32.{Complex32}
-use Rattle.front.specs.declared.FrontPlace.{FrontPlace}
-use Rattle.front.specs.Front.{sampleAt, Rung, Run, frontStep, more, frontTurn, frontOf, Row, realOf, imaginaryOf, laidOf, Front, tookOf, isFull, filledOf, rowed}
-use Rattle.front.specs.Ready.{Ready}
-use Rattle.front.specs.Steps.{Sound, Stepped, values-two, stepped}
+use Rattle.front.specs.Front.{sampleAt, Run, frontStep, more, frontTurn, frontOf, realOf, imaginaryOf, laidOf, Front, tookOf, isFull, filledOf, rowed}
+use Rattle.front.specs.Steps.{values-two}
 
 -- ---- a row read as a list
 rowed-set : (xs ys : List Float) (i n : ℕ) (a b : Float) → n ≤ i → rowed (set xs i a) (set ys i b) n ≡ rowed xs ys n

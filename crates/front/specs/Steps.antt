@@ -1,25 +1,30 @@
 -- What a sample keeps of a front, on the definitions: it stays ready, and makes at most two values. Assumes nothing.
 use Prim.Native.Nat.{ℕ, zero, suc, _+_, _*_, _/_, _^_, _≤_, _<_}
-use native.Mathlib.Nat.{mul-add}
 use native.Mathlib.Omega.{arith}
 use mathlib.Core.Path.{_≡_, refl, sym, ap, _∙_, subst}
 use mathlib.Core.Bool.{Bool}
-use mathlib.Core.List.{List, [], _∷_, _++_, foldl, foldl-append}
+use mathlib.Core.List.{List, _++_, foldl, foldl-append}
 use lib.Dec.{T}
 use lib.ListN.{length, getD, set, length-set, length-append}
 use lib.Ieee.{Float, binary64, fits}
 use Rattle.laws.specs.Turns.{turns, turns-foldl}
 use Rattle.laws.specs.Places.{upto, length-upto, upto-at}
 use Rattle.complex.specs.declared.Complex32.{Complex32}
-use Rattle.oscillator.specs.Oscillator.{turnedOf, mixedOf}
+use Rattle.oscillator.specs.declared.Oscillator.{Oscillator}
+use Rattle.oscillator.specs.Oscillator.{freshOscillator, turnedOf, mixedOf}
+use Rattle.decimator.specs.declared.Decimator.{Decimator}
+use Rattle.decimator.specs.Decimator.{freshOf as freshDecimator}
+use Rattle.resampler.specs.declared.dimensions.Dimensions.{Dimensions}
+use Rattle.resampler.specs.declared.pass.Resampler.{Resampler}
+use Rattle.resampler.specs.Dimensions.{freshOf}
+use Rattle.resampler.specs.Ranges.{Sized}
+use Rattle.resampler.specs.Ranges.{fresh-ready as ring-ready}
 use Rattle.oscillator.specs.Laws.{turned-below}
 use Rattle.decimator.specs.declared.Output.{Output}
 use Rattle.decimator.specs.declared.Output.the-variants.{Nothing, Value}
 use Rattle.decimator.specs.Values.{step-ready}
-use Rattle.decimator.specs.Values.{Ready as ReadyBy}
-use Rattle.resampler.specs.declared.pass.Resampler.{Resampler}
 use Rattle.resampler.specs.Front.{Heard, hearing, heard}
-use Rattle.resampler.specs.Pass.{pushedOf, passedOf, deliveredOf, resampledOf, valuesOf}
+use Rattle.resampler.specs.Pass.{resampledOf}
 use Rattle.resampler.specs.Ready.{ready-again, next-stored}
 use Rattle.resampler.specs.Ready.{Ready as ReadyRing}
 use Rattle.front.specs.declared.FrontPlace.{FrontPlace}
@@ -153,3 +158,15 @@ front-over conjugated table xs none h =
     (λ k b l. ap (more conjugated table b) (sym (upto-at (sampleAt xs) (length xs / 2) k none l)))
     ∙ ap (λ (n : ℕ). turns (λ k a. more conjugated table a (getD (upto (sampleAt xs) (length xs / 2)) k none)) n h) (sym (length-upto (sampleAt xs) (length xs / 2)))
     ∙ turns-foldl (more conjugated table) none (upto (sampleAt xs) (length xs / 2)) h
+
+-- ---- a fresh front is ready
+pub fresh-ready : (rate offset : Float) (s : Dimensions) → Sized s → (o : Oscillator) (d : Decimator) (r : Resampler) → o ≡ freshOscillator rate offset → d ≡ freshDecimator (s .decimation) → r ≡ freshOf s
+    → Ready (record { oscillator = o; decimator = d; resampler = r })
+unfolding freshDecimator
+fresh-ready rate offset s k o d r oe de re =
+    let a = ap (λ (t : Oscillator). t .renormalize) oe in
+    let b = ap (λ (t : Decimator). t .counter) de in
+    let c = ap (λ (t : Decimator). t .decimation) de in
+    let e = k .decimation-low in
+    let f = k .decimation-high in
+    record { turns = omega arith; early = omega arith; slow = omega arith; ring = subst ReadyRing (sym re) (ring-ready s k) }

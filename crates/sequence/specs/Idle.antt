@@ -20,7 +20,7 @@ use Rattle.tracker.specs.Tracker.{Planes, predictionOf}
 use Rattle.trellis.specs.declared.choice.Branch.{Branch}
 use Rattle.trellis.specs.declared.best.Least.{Least}
 use Rattle.trellis.specs.Trellis.{metricOf, branchOf, noBranch, better, chosenOf, arrivalOf, arrivedOf, precedes, bestTurn, bestOf, advancedOf}
-use Rattle.tracker.specs.declared.taps.Taps.{Taps}
+use Rattle.tracker.specs.declared.channel.Taps.{Taps}
 use Rattle.sequence.specs.declared.soft.Soft.the-variants.{Unrecorded}
 use Rattle.sequence.specs.declared.soft.Slot.{Slot}
 use Rattle.sequence.specs.declared.walk.Previous.{Previous}

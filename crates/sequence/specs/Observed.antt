@@ -10,7 +10,7 @@ use Rattle.complex.specs.declared.Complex32.{Complex32}
 use Rattle.complex.specs.Complex.{differenceOf, productOf, conjugateProductOf, powerOf, bothFinite}
 use Rattle.signal.specs.declared.Observation.{Observation}
 use Rattle.signal.specs.declared.Observation.the-variants.{Absent, Present}
-use Rattle.tracker.specs.declared.taps.Taps.{Taps}
+use Rattle.tracker.specs.declared.channel.Taps.{Taps}
 use Rattle.tracker.specs.Tracker.{level, symbolOf}
 use Rattle.sequence.specs.declared.combine.Seen.{Seen}
 use Rattle.sequence.specs.declared.soft.Soft.{Soft}

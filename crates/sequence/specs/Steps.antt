@@ -14,7 +14,7 @@ use Rattle.laws.specs.Turns.{turns, turns-none}
 use Rattle.laws.specs.Places.{length-upto, turns-keep, laid, laid-at, laid-off, length-laid}
 use Rattle.laws.specs.Ring.{lt-or-ge}
 use Rattle.complex.specs.declared.Complex32.{Complex32}
-use Rattle.tracker.specs.declared.taps.Taps.{Taps}
+use Rattle.tracker.specs.declared.channel.Taps.{Taps}
 use Rattle.tracker.specs.Tracker.{Planes, pointAt, tapsOf, laidOut, followedOf, Parents}
 use Rattle.trellis.specs.Trellis.{Advance, advancedOf}
 use Rattle.trellis.specs.Laws.{arrived-parents}

@@ -10,8 +10,8 @@ use complex::power;
 use complex::subtracted;
 use numbers::compare::is_finite32;
 use signal::Observation;
+use tracker::channel::Taps;
 use tracker::symbols::symbol;
-use tracker::taps::Taps;
 
 // The observation weighted by the main tap, so that its size follows the channel's power, and the
 // same over that power.

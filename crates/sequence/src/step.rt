@@ -21,8 +21,8 @@ use complex::power;
 use complex::subtracted;
 use routines::angle::arctangent;
 use signal::Observation;
+use tracker::channel::taps_at;
 use tracker::follow::follow;
-use tracker::taps::taps_at;
 use trellis::step::advance;
 
 // What the detector keeps beside its planes: the row for the next step's parents and record, how

@@ -11,7 +11,7 @@ use Rattle.laws.specs.Places.{upto, length-upto, upto-at, upto-same, fill, fill
 use Rattle.complex.specs.declared.Complex32.{Complex32}
 use Rattle.complex.specs.Complex.{differenceOf, scaledOf}
 use Rattle.numbers.specs.Root.{sqrtOf}
-use Rattle.tracker.specs.declared.taps.Taps.{Taps}
+use Rattle.tracker.specs.declared.channel.Taps.{Taps}
 use Rattle.tracker.specs.Stripes.{column, columns, columns-length, column-same}
 use Rattle.tracker.specs.Tracker.{level, realOf, imaginaryOf, symbolOf, Planes, pointAt, termOf, predictionOf, tapsOf, learntOf, normOf, gainOf, scaledTaps, limitedOf, inheritedAt, learntAt, tapsAfter, tapOf, laidOut, followedOf}
 use Rattle.tracker.specs.Layout.{pastOf, predictionWith, putOf, limitedPart, limitedAt, scaledColumn, limitColumn}

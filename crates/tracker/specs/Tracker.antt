@@ -8,7 +8,7 @@ use Rattle.laws.specs.Places.{upto}
 use Rattle.numbers.specs.Root.{sqrtOf}
 use Rattle.complex.specs.declared.Complex32.{Complex32}
 use Rattle.complex.specs.Complex.{zeroPair, sumOf, differenceOf, scaledOf, productOf, conjugateProductOf, powerOf}
-use Rattle.tracker.specs.declared.taps.Taps.{Taps}
+use Rattle.tracker.specs.declared.channel.Taps.{Taps}
 
 -- ---- symbols
 

@@ -4,7 +4,7 @@
 // A state stands for the last three symbols: newest + 4 x next + 16 x oldest. Taps are lent as two
 // planes, tap after tap: tap t of the state s at s + 64 t.
 
+pub mod channel;
 pub mod follow;
 pub mod predict;
 pub mod symbols;
-pub mod taps;

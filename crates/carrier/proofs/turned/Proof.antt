@@ -1,5 +1,5 @@
 -- `carrier::turned` meets its contract. Assumes nothing.
-use Rattle.carrier.specs.Carrier.{turnedOf}
+use Rattle.carrier.specs.Laws.{turned-is}
 use borrow.Author.Needs.{needs}
 use Rattle.carrier.proofs.turned.Statement.{statement}
 use Rattle.carrier.proofs.turned.Tie as tie
@@ -23,8 +23,7 @@ is-locked-requires : tie.Need-is-locked-requires
 is-locked-requires c κs = search needs
 
 returns : tie.Need-returns
-unfolding turnedOf
-returns c = cc
+returns c = turned-is _ _ _ _ _ _ _ _ _ (c .before .before .before .before .before .phase-error .ensures) (c .before .before .before .before .frequency-after .ensures) (c .before .before .before .error-after .ensures) (c .before .before .phase-after .ensures) (c .is-locked .ensures)
 
 pub turned-spec : {M : Type 1} → statement M
 turned-spec =

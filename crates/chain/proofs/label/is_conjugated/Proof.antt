@@ -1,6 +1,5 @@
 -- `chain::label::is_conjugated` meets its contract. Assumes nothing.
 use Rattle.chain.specs.LabelLaws.{profile-one, profile-other}
-use borrow.Author.Needs.{needs}
 use Rattle.chain.proofs.label.is_conjugated.Statement.{statement}
 use Rattle.chain.proofs.label.is_conjugated.Tie as tie
 

@@ -1,0 +1,85 @@
+//! What bench.rattle does, with the upstream's chain: bench/chain.sh puts the oracle's opened copy of
+//! the upstream beside this file.
+
+#[allow(dead_code)]
+mod dsp;
+#[allow(dead_code)]
+mod equalizer;
+#[allow(dead_code)]
+mod routines;
+#[allow(dead_code)]
+mod sequence;
+#[allow(dead_code)]
+mod signal;
+
+use dsp::{Complex32, SymbolChain};
+
+fn mixed(h: u64, x: u64) -> u64 {
+    let mut h = h ^ x;
+    h = h.wrapping_add(h << 21);
+    h ^= h >> 24;
+    h = h.wrapping_add(h << 3);
+    h = h.wrapping_add(h << 8);
+    h ^ (h >> 14)
+}
+
+fn mixed_float(h: u64, x: f64) -> u64 {
+    mixed(h, if x.is_nan() { 0x7ff8_0000_0000_0000 } else { x.to_bits() })
+}
+
+fn random(s: u64) -> u64 {
+    let a = s ^ (s << 13);
+    let b = a ^ (a >> 7);
+    b ^ (b << 17)
+}
+
+fn unit(s: u64) -> f32 {
+    (s >> 40) as f32 / 8388608.0 - 1.0
+}
+
+fn point(eighth: usize) -> f32 {
+    const S: f32 = 0.70710677;
+    [1.0, S, 0.0, -S, -1.0, -S, 0.0, S][eighth % 8]
+}
+
+/// Rows of 256 values, four to a symbol that turns by an odd number of eighths, with noise.
+fn rows(profile: i32, rounds: u64) -> u64 {
+    let mut chain = Box::new(SymbolChain::new(profile));
+    let (mut seed, mut eighth) = (1, 0);
+    let mut row = [Complex32 { real: 0.0, imaginary: 0.0 }; 256];
+    let mut told = [(0u8, [0u8; 2]); 256];
+    let mut h = 0;
+    for _ in 0..rounds {
+        for (i, value) in row.iter_mut().enumerate() {
+            seed = random(seed);
+            if i % 4 == 0 {
+                eighth = (eighth + 1 + 2 * (seed % 4) as usize) % 8;
+            }
+            value.real = point(eighth) + 0.1 * unit(seed);
+            seed = random(seed);
+            value.imaginary = point(eighth + 6) + 0.1 * unit(seed);
+        }
+        let mut written = 0;
+        for value in &row {
+            if let Some(streams) = chain.process(*value) {
+                told[written] = streams[0];
+                written += 1;
+            }
+        }
+        for (dibit, soft) in &told[..written] {
+            h = mixed(h, *dibit as u64 + 256 * soft[0] as u64 + 65536 * soft[1] as u64);
+        }
+    }
+    h = mixed(mixed(h, chain.symbols as u64), chain.locked_symbols as u64);
+    mixed_float(mixed_float(h, chain.carrier.phase), chain.carrier.error)
+}
+
+fn main() {
+    let mut line = String::new();
+    std::io::stdin().read_line(&mut line).unwrap();
+    let h = match line.bytes().next() {
+        Some(b'1') => rows(1, 8000),
+        _ => rows(0, 8000),
+    };
+    println!("{h:016x}");
+}

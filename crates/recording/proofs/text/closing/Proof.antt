@@ -1,0 +1,55 @@
+-- `recording::text::closing` meets its contract. Assumes nothing.
+use Rattle.recording.specs.TextLaws.{closing-put}
+use borrow.Author.Needs.{needs}
+use Rattle.recording.proofs.text.closing.Statement.{statement}
+use Rattle.recording.proofs.text.closing.Tie as tie
+
+slice-aggregate-field : tie.Need-slice-aggregate-field
+slice-aggregate-field c = search needs
+
+field-requires : tie.Need-field-requires
+field-requires c κs = search needs
+
+slice-aggregate-field-2 : tie.Need-slice-aggregate-field-2
+slice-aggregate-field-2 c = search needs
+
+field-requires-2 : tie.Need-field-requires-2
+field-requires-2 c κs = search needs
+
+slice-aggregate-field-3 : tie.Need-slice-aggregate-field-3
+slice-aggregate-field-3 c = search needs
+
+flag-requires : tie.Need-flag-requires
+flag-requires c κs = search needs
+
+field-requires-3 : tie.Need-field-requires-3
+field-requires-3 c κs = search needs
+
+slice-aggregate-field-4 : tie.Need-slice-aggregate-field-4
+slice-aggregate-field-4 c = search needs
+
+field-requires-4 : tie.Need-field-requires-4
+field-requires-4 c κs = search needs
+
+same-length : tie.Need-same-length
+same-length c = search needs
+
+returns : tie.Need-returns
+returns c =
+    (closing-put _ _ _ _ _ _ _ (c .before .before .before .before .before .before .before .before .before .flag .ensures) (c .before .before .before .before .before .before .before .before .before .before .before .before .before .before .before .before .before .before .field .ensures .0) (c .before .before .before .before .before .before .before .before .before .before .before .before .before .field2 .ensures .0) (c .before .before .before .before .before .before .before .field3 .ensures .0) (c .before .before .field4 .ensures .0), (search needs, search needs))
+
+pub closing-spec : {M : Type 1} → statement M
+closing-spec =
+    tie.close
+    (tie.spec
+    slice-aggregate-field
+    field-requires
+    slice-aggregate-field-2
+    field-requires-2
+    slice-aggregate-field-3
+    flag-requires
+    field-requires-3
+    slice-aggregate-field-4
+    field-requires-4
+    same-length
+    returns)
