@@ -249,6 +249,62 @@ fn snapshot_digest(digest: u64, s: Snapshot) -> u64 {
     mixed(b, wide32(s.carrier_locked))
 }
 
+fn block_in(
+    words: &mut [u64; 6757],
+    table: &[f32],
+    samples: &[f32],
+    dibits: &mut [u8],
+    reliabilities: &mut [u8],
+) {
+    fill_bytes(&mut *dibits, 250);
+    fill_bytes(&mut *reliabilities, 240);
+    let b = receiver::block::take(
+        decoded(words),
+        table,
+        samples,
+        &mut *dibits,
+        &mut *reliabilities,
+    );
+    let verdict = b.verdict;
+    let refusal = number(verdict);
+    let count = b.count as u64;
+    let r = b.receiver;
+    encode(r, &mut *words);
+    let snapshot = b.snapshot;
+    let h = mixed(mixed(mixed(0, wide32(refusal)), count), wide32(b.overload));
+    let g = bytes_digest(snapshot_digest(h, snapshot), dibits);
+    print_answer(refusal, count, bytes_digest(g, reliabilities), words);
+}
+
+pub fn block(
+    e: Entry,
+    words: &mut [u64; 6757],
+    table: &[f32],
+    samples: &[f32],
+    dibits: &mut [u8],
+    reliabilities: &mut [u8],
+) {
+    let n = e.first as usize;
+    let p = e.second as usize;
+    let q = e.third as usize;
+    let t = e.fourth as usize;
+    if n <= samples.len() {
+        if t <= table.len() {
+            if p <= dibits.len() {
+                if q <= reliabilities.len() {
+                    block_in(
+                        words,
+                        &table[..t],
+                        &samples[..n],
+                        &mut dibits[..p],
+                        &mut reliabilities[..q],
+                    );
+                }
+            }
+        }
+    }
+}
+
 // ---- words of the state
 
 pub fn put_word(e: Entry, words: &mut [u64; 6757]) {

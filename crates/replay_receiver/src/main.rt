@@ -23,9 +23,10 @@ fn answered(
     if e.kind == 0 {
         desk::set_up(e, words, table);
     } else if e.kind == 1 {
-        if !desk::take_samples(e, input, samples) {
+        if !desk::take_samples(e, input, &mut *samples) {
             return false;
         }
+        desk::block(e, words, table, samples, dibits, reliabilities);
     } else if e.kind == 2 {
         desk::read(e, words, samples);
     } else if e.kind == 3 {
