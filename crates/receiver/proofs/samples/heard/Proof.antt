@@ -1,0 +1,23 @@
+use Rattle.receiver.specs.Loud.{level-quiet, level-loud, level-unsound}
+use borrow.Author.Needs.{needs}
+use Rattle.receiver.proofs.samples.heard.Statement.{statement}
+use Rattle.receiver.proofs.samples.heard.Tie as tie
+
+loud-samples-requires : tie.Need-loud-samples-requires
+loud-samples-requires c κs = search needs
+
+returns : tie.Need-returns
+returns c = level-quiet _ _ (c .before .loud-samples .ensures) (c .if1 .taken)
+
+all-finite-requires : tie.Need-all-finite-requires
+all-finite-requires c κs = search needs
+
+returns-2 : tie.Need-returns-2
+returns-2 c = level-loud _ _ _ (c .before .before .before .loud-samples .ensures) (c .before .all-finite .ensures) (c .if2 .taken)
+
+returns-3 : tie.Need-returns-3
+returns-3 c = level-unsound _ _ (c .before .all-finite .ensures) (c .if2 .left)
+
+pub heard-spec : {M : Type 1} → statement M
+heard-spec =
+    tie.close (tie.spec loud-samples-requires returns all-finite-requires returns-2 returns-3)

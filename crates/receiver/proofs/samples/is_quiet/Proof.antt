@@ -1,0 +1,12 @@
+use mathlib.Core.Path.{refl}
+use lib.Ieee.{ofBits, neg, le}
+use Rattle.receiver.specs.Loud.{quietOf}
+use Rattle.receiver.proofs.samples.is_quiet.Statement.{statement}
+use Rattle.receiver.proofs.samples.is_quiet.Tie as tie
+
+returns : tie.Need-returns
+unfolding quietOf ofBits neg le
+returns c = refl
+
+pub is-quiet-spec : {M : Type 1} → statement M
+is-quiet-spec = tie.close (tie.spec returns)

@@ -1,0 +1,15 @@
+use borrow.Author.Needs.{needs}
+use Rattle.receiver.proofs.samples.still_finite.Statement.{statement}
+use Rattle.receiver.proofs.samples.still_finite.Tie as tie
+
+is-finite32-requires : tie.Need-is-finite32-requires
+is-finite32-requires c κs = search needs
+
+is-finite32-requires-2 : tie.Need-is-finite32-requires-2
+is-finite32-requires-2 c κs = search needs
+
+returns : tie.Need-returns
+returns c = cc
+
+pub still-finite-spec : {M : Type 1} → statement M
+still-finite-spec = tie.close (tie.spec is-finite32-requires is-finite32-requires-2 returns)

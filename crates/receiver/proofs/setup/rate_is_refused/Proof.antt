@@ -1,0 +1,15 @@
+use lib.Ieee.{ofBits, lt}
+use Rattle.receiver.specs.Setup.{rateRefused}
+use borrow.Author.Needs.{needs}
+use Rattle.receiver.proofs.setup.rate_is_refused.Statement.{statement}
+use Rattle.receiver.proofs.setup.rate_is_refused.Tie as tie
+
+is-finite-requires : tie.Need-is-finite-requires
+is-finite-requires c κs = search needs
+
+returns : tie.Need-returns
+unfolding rateRefused ofBits lt
+returns c = rw (c .is-finite .ensures)
+
+pub rate-is-refused-spec : {M : Type 1} → statement M
+rate-is-refused-spec = tie.close (tie.spec is-finite-requires returns)

@@ -1,0 +1,95 @@
+-- Setup and reading, by their ways out: what the code gives there is what the definition says. Assumes nothing.
+use mathlib.Core.Path.{_≡_, refl, sym, _∙_}
+use mathlib.Core.Bool.{Bool, true, false, not, _||_, true≢false}
+use mathlib.Core.List.{List}
+use Prim.Native.Nat.{_*_, _≤_, _<_}
+use lib.Dec.{T, ltb}
+use lib.IntN.{ℤ}
+use lib.ListN.{length}
+use lib.Ieee.{Float, nan, inf, fin, binary64, ofBits, lt, le}
+use lib.Ieee.Scale.{finite}
+use borrow.Author.Tests.{lt-ltb, le-ltb}
+use Rattle.laws.specs.FloatOrder.{not-lt→le}
+use Rattle.numbers.specs.Numbers.{isFinite}
+use Rattle.signal.specs.declared.Reading.{Reading as Shown}
+use Rattle.signal.specs.Signal.{Read, viewOf, readOf}
+use Rattle.resampler.specs.declared.dimensions.Dimensions.{Dimensions}
+use Rattle.resampler.specs.Dimensions.{sizedOf}
+use Rattle.resampler.specs.Design.{writtenOf}
+use Rattle.resampler.specs.Ranges.{AdmittedRate, lowestRate, highestRate}
+use Rattle.front.specs.declared.FrontPlace.{FrontPlace}
+use Rattle.receiver.specs.declared.refusal.Verdict.the-variants.{Accepted, Rate, Offset, Table, State}
+use Rattle.receiver.specs.declared.state.Receiver.{Receiver}
+use Rattle.receiver.specs.declared.setup.Setup.{Setup}
+use Rattle.receiver.specs.State.{freshFront, freshReceiver}
+use Rattle.receiver.specs.Admitted.{admittedOf}
+use Rattle.receiver.specs.Fits.{fits-from}
+use Rattle.receiver.specs.Setup.{rateRefused, offsetRefused, setupNow, refusedReceiver, setupOf}
+use Rattle.receiver.specs.Reading.{pointsNow, readingOf}
+
+-- ---- setup
+or-false : (a b : Bool) → (a || b) ≡ false → (a ≡ false) × (b ≡ false)
+or-false false b h = (refl, h)
+or-false true b h = absurd (true≢false h)
+
+is-not : (b : Bool) → b ≡ false → T (not b)
+is-not true h = absurd (true≢false h)
+is-not false h = tt
+
+finite-of : (x : Float) → not (isFinite x) ≡ false → T (finite x)
+unfolding isFinite
+finite-of nan h = absurd (true≢false h)
+finite-of (inf s) h = absurd (true≢false h)
+finite-of (fin s m e) h = tt
+
+-- a rate that is not refused is one that the resampler takes
+pub rate-admitted : (rate : Float) (b : Bool) → b ≡ rateRefused rate → b ≡ false → AdmittedRate rate
+unfolding rateRefused ofBits
+rate-admitted rate b e f =
+    let o = or-false (not (isFinite rate)) (lt rate lowestRate || lt highestRate rate) (sym e ∙ f) in
+    let p = or-false (lt rate lowestRate) (lt highestRate rate) (o .1) in
+    let F = finite-of rate (o .0) in
+    record {
+      range = record {
+        lower = not-lt→le rate lowestRate F tt (is-not (lt rate lowestRate) (p .0));
+        upper = not-lt→le highestRate rate tt F (is-not (lt highestRate rate) (p .1));
+      };
+    }
+
+module _ (rate offset : Float) (profile : ℤ) (table : List Float) where
+  pub setup-rate : (b : Bool) (s : Setup) → b ≡ rateRefused rate → b ≡ true → s ≡ refusedReceiver Rate → setupNow s table ≡ setupOf rate offset profile table
+  unfolding setupOf
+  setup-rate b s e t g = rw (← e, t, g)
+
+  pub setup-offset : (a b : Bool) (s : Setup) → a ≡ rateRefused rate → a ≡ false → b ≡ offsetRefused rate offset → b ≡ true → s ≡ refusedReceiver Offset
+      → setupNow s table ≡ setupOf rate offset profile table
+  unfolding setupOf
+  setup-offset a b s d f e t g = rw (← d, f, ← e, t, g)
+
+  pub setup-table : (a b : Bool) (d : Dimensions) (s : Setup) → a ≡ rateRefused rate → a ≡ false → b ≡ offsetRefused rate offset → b ≡ false → d ≡ sizedOf rate → length table < 32 * d .arm
+      → s ≡ refusedReceiver Table → setupNow s table ≡ setupOf rate offset profile table
+  unfolding setupOf
+  setup-table a b d s p f e k m l g = rw (← p, f, ← e, k, ← m, lt-ltb (length table) (32 * d .arm) l, g)
+
+  pub setup-accepted : (a b : Bool) (d : Dimensions) (front : FrontPlace) (r : Receiver) (after : List Float) → a ≡ rateRefused rate → a ≡ false → b ≡ offsetRefused rate offset → b ≡ false
+      → d ≡ sizedOf rate → 32 * d .arm ≤ length table → after ≡ writtenOf (d .arm) (d .rate) table → front ≡ freshFront rate offset d → r ≡ freshReceiver front profile
+      → setupNow (record { verdict = Accepted; receiver = r }) after ≡ setupOf rate offset profile table
+  unfolding setupOf
+  setup-accepted a b d front r after p f e k m l w h g = rw (← p, f, ← e, k, ← m, le-ltb (length table) (32 * d .arm) l, w, g, h)
+
+-- ---- reading
+-- an admitted state's view can be read
+pub view-ranges : (r : Receiver) (b : Bool) → b ≡ admittedOf r → b ≡ true → (r .chain .view .head < 1024) × (r .chain .view .count ≤ 1024)
+view-ranges r b e t =
+    let k = fits-from (r .total) (r .front) (r .chain) (r .parents) (sym e ∙ t) in
+    (k .chain-fits .view-head, k .chain-fits .view-count)
+
+pub reading-accepted : (r : Receiver) (output after : List Float) (p : Shown) (b : Bool) → b ≡ admittedOf r → b ≡ true
+    → _≡_ {A = Read} (record { reading = p; output = after }) (readOf (viewOf (r .chain .view) (r .«view_real») (r .«view_imaginary»)) output)
+    → pointsNow (record { verdict = Accepted; count = p .count; error = p .error }) after ≡ readingOf r output
+unfolding readingOf
+reading-accepted r output after p b e t h = rw (← e, t, ← h)
+
+pub reading-refused : (r : Receiver) (output : List Float) (b : Bool) → b ≡ admittedOf r → b ≡ false → pointsNow (record { verdict = State; count = 0; error = ofBits binary64 0 }) output ≡ readingOf r output
+unfolding readingOf
+reading-refused r output b e f = rw (← e, f)

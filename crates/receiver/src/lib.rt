@@ -1,0 +1,11 @@
+// The receiver: setup, blocks of samples, and the reading of the constellation. What is asked of a
+// caller is checked, and answered by a refusal.
+
+pub mod admitted;
+pub mod block;
+pub mod reading;
+pub mod refusal;
+mod run;
+mod samples;
+pub mod setup;
+pub mod state;

@@ -1,0 +1,37 @@
+// The constellation: the last points, oldest first, and their error.
+ghost use mathlib.Core.Path.{_≡_};
+ghost use Rattle.receiver.specs.Reading.{pointsNow, readingOf};
+use crate::admitted::is_admitted;
+use crate::refusal::Verdict;
+use crate::state::Receiver;
+
+pub struct Points {
+    pub verdict: Verdict,
+    pub count: usize,
+    pub error: f64,
+}
+
+// The room is the number of whole pairs of floats lent.
+pub fn read(r: Receiver, output: &mut [f32]) -> Points
+    ensures { λ p. ⌜ pointsNow p (now (output .exit)) ≡ readingOf r (now (output .entry)) ⌝ }
+{
+    let front = r.front;
+    let chain = r.chain;
+    let parents = r.parents;
+    if is_admitted(r.total, front, chain, &parents) {
+        let view = chain.view;
+        let real = r.view_real;
+        let imaginary = r.view_imaginary;
+        let p = signal::read(view, &real, &imaginary, output);
+        return Points {
+            verdict: Verdict::Accepted,
+            count: p.count,
+            error: p.error,
+        };
+    }
+    Points {
+        verdict: Verdict::State,
+        count: 0,
+        error: 0.0,
+    }
+}
