@@ -71,6 +71,15 @@ const AFTER_STAGES: &str = "
 
   taps matched | taps derivative | taps table RATE
       the matched filter's 1,025 taps, their derivatives, or a rate's tap table, a line each
+  script edges | script signals SEED COUNT | script states SEED COUNT > LIST
+      calls of the receiver: the edges of every check; signals cut into blocks; states and tables that
+      no setup made (src/script.rs says how a script is laid out)
+  script answers < LIST
+      a line per setup, block and read: refusal and count, digest of the answer and of what was lent,
+      digest of the state
+  bench < FOUR WORDS
+      what bench/run times
+
   selftest [STATES]
       the oracle's test of itself, on so many random states (400)
   help

@@ -23,6 +23,7 @@ mod routines;
 
 mod accuracy;
 mod admitted;
+mod bench;
 mod calls;
 mod chain_list;
 mod chosen;
@@ -45,6 +46,8 @@ mod receive;
 mod resampler_list;
 mod routine_list;
 mod samples;
+mod script;
+mod script_writer;
 mod selftest;
 mod sequence_list;
 mod state;
@@ -93,6 +96,8 @@ fn run(words: &[&str]) -> Outcome {
         ["tables", rest @ ..] => tables::run(rest),
         ["resampler", rest @ ..] => resampler_list::run(rest),
         ["taps", rest @ ..] => taps::run(rest),
+        ["bench"] => bench::run(),
+        ["script", rest @ ..] => script_writer::run(rest),
         ["selftest", rest @ ..] => selftest::run(rest),
         _ => Err("no such subcommand; oracle/run help lists them".into()),
     }

@@ -1,0 +1,291 @@
+// The entries of a script, each on the state and the table that stand on the desk.
+ghost use Prim.Native.Nat.{_<_, _≤_};
+ghost use lib.ListN.{length};
+use super::codec::decoded;
+use super::codec::encode;
+use super::codec::profile_of;
+use numbers::bits::float;
+use numbers::bits::float32;
+use receiver::refusal::number;
+use receiver::state::Snapshot;
+use replay::mixed;
+use replay::mixed_float;
+use replay::mixed_float32;
+use replay::word;
+
+const OUT: i32 = 1;
+
+pub struct Entry {
+    pub kind: u64,
+    pub first: u64,
+    pub second: u64,
+    pub third: u64,
+    pub fourth: u64,
+    pub fifth: u64,
+    pub sixth: u64,
+}
+
+pub fn entry_of(head: &[u8]) -> Entry
+    requires { ⌜ 64 ≤ length (now head) ⌝ }
+{
+    Entry {
+        kind: word(head, 0),
+        first: word(head, 8),
+        second: word(head, 16),
+        third: word(head, 24),
+        fourth: word(head, 32),
+        fifth: word(head, 40),
+        sixth: word(head, 48),
+    }
+}
+
+// ---- what an entry answers
+
+fn wide8(x: u8) -> u64 {
+    x as u64
+}
+
+fn wide32(x: u32) -> u64 {
+    x as u64
+}
+
+fn words_digest(words: &[u64; 6757]) -> u64 {
+    let mut h: u64 = 0;
+    let mut i = 0;
+    while i < 6757 {
+        h = mixed(h, words[i]);
+        i += 1;
+    }
+    h
+}
+
+fn floats_digest(digest: u64, floats: &[f32]) -> u64 {
+    let mut h = digest;
+    let mut i = 0;
+    while i < floats.len() {
+        h = mixed_float32(h, floats[i]);
+        i += 1;
+    }
+    h
+}
+
+fn bytes_digest(digest: u64, lent: &[u8]) -> u64 {
+    let mut h = digest;
+    let mut i = 0;
+    while i < lent.len() {
+        h = mixed(h, wide8(lent[i]));
+        i += 1;
+    }
+    h
+}
+
+// A line: refusal and count, the answer's digest, the state's.
+fn print_answer(refusal: u32, count: u64, answer: u64, words: &[u64; 6757]) {
+    io::print_hex(
+        OUT,
+        std::num::wrapping_add_u64(wide32(refusal), count << 4),
+        16,
+    );
+    io::write_all(OUT, b" ");
+    io::print_hex(OUT, answer, 16);
+    io::write_all(OUT, b" ");
+    io::print_hex(OUT, words_digest(words), 16);
+    io::write_all(OUT, b"\n");
+}
+
+// ---- patterns in what is lent
+
+fn fill_floats(floats: &mut [f32]) {
+    let mut pattern: u32 = 0x4000_0000;
+    let mut i = 0;
+    while i < floats.len() {
+        floats[i] = float32(pattern);
+        pattern = std::num::wrapping_add_u32(pattern, 1);
+        i += 1;
+    }
+}
+
+fn after(x: u8, last: u8) -> u8 {
+    if x < last { x + 1 } else { 0 }
+}
+
+// 0, 1, 2 up to `last`, and again.
+fn fill_bytes(lent: &mut [u8], last: u8) {
+    let mut x: u8 = 0;
+    let mut i = 0;
+    while i < lent.len() {
+        lent[i] = x;
+        x = after(x, last);
+        i += 1;
+    }
+}
+
+// ---- setup and read
+
+fn set_up_in(e: Entry, words: &mut [u64; 6757], lent: &mut [f32]) -> u32 {
+    let profile = profile_of(e.third);
+    let s = receiver::setup::set_up(float(e.first), float(e.second), profile, lent);
+    let verdict = s.verdict;
+    let r = s.receiver;
+    encode(r, words);
+    number(verdict)
+}
+
+pub fn set_up(e: Entry, words: &mut [u64; 6757], table: &mut [f32]) {
+    fill_floats(&mut *table);
+    let room = e.fourth as usize;
+    if room <= table.len() {
+        let refusal = set_up_in(e, &mut *words, &mut table[..room]);
+        let answer = mixed(floats_digest(0, table), wide32(refusal));
+        print_answer(refusal, 0, answer, words);
+    }
+}
+
+fn read_in(words: &[u64; 6757], lent: &mut [f32]) {
+    fill_floats(&mut *lent);
+    let p = receiver::reading::read(decoded(words), &mut *lent);
+    let verdict = p.verdict;
+    let refusal = number(verdict);
+    let count = p.count as u64;
+    let h = mixed_float(mixed(mixed(0, wide32(refusal)), count), p.error);
+    print_answer(refusal, count, floats_digest(h, lent), words);
+}
+
+pub fn read(e: Entry, words: &[u64; 6757], floats: &mut [f32]) {
+    let room = e.first as usize;
+    if room <= floats.len() {
+        read_in(words, &mut floats[..room]);
+    }
+}
+
+// ---- blocks
+
+// A word where there is one.
+fn word_or_zero(input: &[u8], at: usize) -> u64
+    requires { ⌜ at < 1048576 ⌝ }
+{
+    if at + 8 <= input.len() {
+        word(input, at)
+    } else {
+        0
+    }
+}
+
+// Float i of a row of words, two to a word.
+fn packed(input: &[u8], i: usize) -> f32
+    requires { ⌜ i < 131080 ⌝ }
+{
+    let w = word_or_zero(input, i / 2 * 8);
+    let half = if i % 2 == 0 { w } else { w / 0x1_0000_0000 };
+    float32((half % 0x1_0000_0000) as u32)
+}
+
+fn unpack(input: &[u8], floats: &mut [f32], n: usize)
+    requires { ⌜ n ≤ length (now floats) ⌝ }
+{
+    let mut i = 0;
+    while i < n {
+        floats[i] = packed(input, i % 131080);
+        i += 1;
+    }
+}
+
+fn seed_samples(seed: u64, gain: f32, floats: &mut [f32], n: usize)
+    requires { ⌜ n ≤ length (now floats) ⌝ }
+{
+    let mut s = seed;
+    let mut i = 0;
+    while i < n {
+        s = mixed(s, 1);
+        floats[i] = (std::num::nearest_u32_to_f32((s / 0x100_0000_0000) as u32) / 8388608.0 - 1.0)
+            * gain;
+        i += 1;
+    }
+}
+
+// Whether the first so many bytes could be read.
+fn read_first(input: &mut [u8], count: usize) -> bool {
+    if count <= input.len() {
+        io::read_full(0, &mut input[..count]) == count
+    } else {
+        false
+    }
+}
+
+// The bytes of so many floats, from standard input.
+fn fetch(floats: u64, input: &mut [u8]) -> bool {
+    if floats > 131080 {
+        return false;
+    }
+    read_first(input, ((floats + 1) / 2 * 8) as usize)
+}
+
+// A block's samples, from its seed or from standard input.
+pub fn take_samples(e: Entry, input: &mut [u8], samples: &mut [f32]) -> bool {
+    let n = e.first as usize;
+    if n > samples.len() {
+        return false;
+    }
+    if e.fifth > 0 {
+        seed_samples(
+            e.fifth,
+            float32((e.sixth % 0x1_0000_0000) as u32),
+            samples,
+            n,
+        );
+        return true;
+    }
+    if fetch(e.first, &mut *input) {
+        unpack(input, samples, n);
+        true
+    } else {
+        false
+    }
+}
+
+fn snapshot_digest(digest: u64, s: Snapshot) -> u64 {
+    let a = mixed(mixed(digest, s.symbols), s.locked_symbols);
+    let b = mixed_float(mixed_float(a, s.carrier_error), s.frequency_offset_hz);
+    mixed(b, wide32(s.carrier_locked))
+}
+
+// ---- words of the state
+
+pub fn put_word(e: Entry, words: &mut [u64; 6757]) {
+    if e.first < 6757 {
+        words[e.first as usize] = e.second;
+    }
+}
+
+fn take_words(input: &[u8], words: &mut [u64; 6757])
+    requires { ⌜ 54056 ≤ length (now input) ⌝ }
+{
+    let mut i = 0;
+    while i < 6757 {
+        words[i] = word(input, 8 * i);
+        i += 1;
+    }
+    words[48] = 0;
+    words[49] = 0;
+    words[50] = 0;
+}
+
+// A state, and the floats of its table.
+pub fn hand_in(e: Entry, input: &mut [u8], words: &mut [u64; 6757], table: &mut [f32]) -> bool {
+    if !fetch(2 * 6757, &mut *input) {
+        return false;
+    }
+    if input.len() < 54056 {
+        return false;
+    }
+    take_words(input, words);
+    let n = e.first as usize;
+    if n > table.len() {
+        return false;
+    }
+    if !fetch(e.first, &mut *input) {
+        return false;
+    }
+    unpack(input, table, n);
+    true
+}
