@@ -15,3 +15,4 @@ pub mod Run
 pub mod RunLaws
 pub mod BlockLaws
 pub mod Laws
+pub mod Delivered

@@ -1,0 +1,161 @@
+-- `replay_chain::answer` is safe: the state that it makes may be run. Assumes nothing.
+use mathlib.Core.Path.{sym, ap, _∙_}
+use lib.ListN.{length}
+use Rattle.laws.specs.Places.{length-upto}
+use Rattle.sequence.specs.Sequence.{freshReal}
+use borrow.Author.Tests.{not-false}
+use Rattle.clock.specs.AdmittedLaws.{admitted-facts}
+use borrow.Author.Needs.{needs}
+use borrow.Author.Needs.{needs}
+use Rattle.replay_chain.proofs.answer.Statement.{statement}
+use Rattle.replay_chain.proofs.answer.Tie as tie
+
+started-requires : tie.Need-started-requires
+started-requires c κs = search needs
+
+fresh-real-requires : tie.Need-fresh-real-requires
+fresh-real-requires c κs = search needs
+
+fresh-imaginary-requires : tie.Need-fresh-imaginary-requires
+fresh-imaginary-requires c κs = search needs
+
+fresh-channels-requires : tie.Need-fresh-channels-requires
+fresh-channels-requires c κs = search needs
+
+slice-aggregate-fill : tie.Need-slice-aggregate-fill
+slice-aggregate-fill c = search needs
+
+fill-requires : tie.Need-fill-requires
+fill-requires c κs = search needs
+
+slice-aggregate-fill-2 : tie.Need-slice-aggregate-fill-2
+slice-aggregate-fill-2 c = search needs
+
+fill-requires-2 : tie.Need-fill-requires-2
+fill-requires-2 c κs = search needs
+
+slice-aggregate-fill-3 : tie.Need-slice-aggregate-fill-3
+slice-aggregate-fill-3 c = search needs
+
+fill-requires-3 : tie.Need-fill-requires-3
+fill-requires-3 c κs = search needs
+
+slice-aggregate-fill-4 : tie.Need-slice-aggregate-fill-4
+slice-aggregate-fill-4 c = search needs
+
+fill-requires-4 : tie.Need-fill-requires-4
+fill-requires-4 c κs = search needs
+
+slice-aggregate-fill-5 : tie.Need-slice-aggregate-fill-5
+slice-aggregate-fill-5 c = search needs
+
+fill-requires-5 : tie.Need-fill-requires-5
+fill-requires-5 c κs = search needs
+
+slice-aggregate-fill-6 : tie.Need-slice-aggregate-fill-6
+slice-aggregate-fill-6 c = search needs
+
+fill-requires-6 : tie.Need-fill-requires-6
+fill-requires-6 c κs = search needs
+
+slice-aggregate-fill-7 : tie.Need-slice-aggregate-fill-7
+slice-aggregate-fill-7 c = search needs
+
+fill-requires-7 : tie.Need-fill-requires-7
+fill-requires-7 c κs = search needs
+
+slice-aggregate-fill-8 : tie.Need-slice-aggregate-fill-8
+slice-aggregate-fill-8 c = search needs
+
+fill-requires-8 : tie.Need-fill-requires-8
+fill-requires-8 c κs = search needs
+
+slice-aggregate-fill-9 : tie.Need-slice-aggregate-fill-9
+slice-aggregate-fill-9 c = search needs
+
+fill-requires-9 : tie.Need-fill-requires-9
+fill-requires-9 c κs = search needs
+
+fill-parents-requires : tie.Need-fill-parents-requires
+fill-parents-requires c κs = search needs
+
+made-records-requires : tie.Need-made-records-requires
+made-records-requires c κs = search needs
+
+made-place-requires : tie.Need-made-place-requires
+made-place-requires c κs = search needs
+
+made-point-requires : tie.Need-made-point-requires
+made-point-requires c κs = search needs
+
+slice-aggregate-fill-10 : tie.Need-slice-aggregate-fill-10
+slice-aggregate-fill-10 c = search needs
+
+fill-requires-10 : tie.Need-fill-requires-10
+fill-requires-10 c κs = search needs
+
+slice-aggregate-fill-11 : tie.Need-slice-aggregate-fill-11
+slice-aggregate-fill-11 c = search needs
+
+fill-requires-11 : tie.Need-fill-requires-11
+fill-requires-11 c κs = search needs
+
+admitted-requires : tie.Need-admitted-requires
+admitted-requires c κs = search needs
+
+slice-aggregate-write-all : tie.Need-slice-aggregate-write-all
+slice-aggregate-write-all c = search needs
+
+write-all-requires : tie.Need-write-all-requires
+write-all-requires c κs = search needs
+
+returns : tie.Need-returns
+returns c = search needs
+
+run-requires : tie.Need-run-requires
+unfolding freshReal
+run-requires c κs = let q = c .before .before .before .before .before .before .before .before .before .before .before .before .before .before .before .before .before .before .before .before .before .before .before .before .before .before .before .before .before .before .before .before .before .before .before .before .before .before .before .before .before .before .before .before .before .before .before .before .before .before .before .before .before .before .before .before .before .before .before .before .before .before .pre in record { keeper = record { head = q .keeper-head; fill = q .keeper-fill; real-size = c .before .before .before .before .before .before .before .before .before .before .before .before .before .before .before .before .before .before .before .before .before .before .before .before .before .before .before .before .before .before .before .before .before .before .before .before .before .before .before .before .before .before .before .before .before .before .before .before .before .before .before .before .before .before .before .before .fill .ensures; imaginary-size = c .before .before .before .before .before .before .before .before .before .before .before .before .before .before .before .before .before .before .before .before .before .before .before .before .before .before .before .before .before .before .before .before .before .before .before .before .before .before .before .before .before .before .before .before .before .before .before .before .before .before .before .before .before .fill2 .ensures }; clock = admitted-facts _ (sym (c .before .before .before .before .before .before .before .before .before .before .before .before .before .before .admitted .ensures) ∙ not-false _ (c .before .before .before .before .before .before .before .before .before .before .before .before .before .if1 .left)); carrier = record { alternation = q .alternation; detector = record { write = c .before .before .before .before .before .before .before .before .before .before .before .before .before .before .before .before .before .before .before .before .before .before .before .before .before .before .made-place .ensures .0; filled = c .before .before .before .before .before .before .before .before .before .before .before .before .before .before .before .before .before .before .before .before .before .before .before .before .before .before .made-place .ensures .1; earlier = c .before .before .before .before .before .before .before .before .before .before .before .before .before .before .before .before .before .before .before .before .before .before .before .before .before .before .made-place .ensures .2; table = c .before .before .before .before .before .before .before .before .before .before .before .before .before .before .before .before .before .before .before .before .before .before .before .before .before .before .before .before .before .fill-parents .ensures .0; real-size = c .before .before .before .before .before .before .before .before .before .before .before .before .before .before .before .before .before .before .before .before .before .before .before .before .before .before .before .before .before .before .before .before .before .before .before .before .before .before .fill7 .ensures ∙ ap length (c .before .before .before .before .before .before .before .before .before .before .before .before .before .before .before .before .before .before .before .before .before .before .before .before .before .before .before .before .before .before .before .before .before .before .before .before .before .before .before .before .before .before .before .before .before .before .before .before .before .before .before .before .before .before .before .before .before .before .fresh-channels .ensures) ∙ length-upto _ _; imaginary-size = c .before .before .before .before .before .before .before .before .before .before .before .before .before .before .before .before .before .before .before .before .before .before .before .before .before .before .before .before .before .before .before .before .before .before .before .fill8 .ensures; costs-size = c .before .before .before .before .before .before .before .before .before .before .before .before .before .before .before .before .before .before .before .before .before .before .before .before .before .before .before .before .before .before .before .before .fill9 .ensures; parents-size = c .before .before .before .before .before .before .before .before .before .before .before .before .before .before .before .before .before .before .before .before .before .before .before .before .before .before .before .before .before .fill-parents .ensures .1 } }; view = record { head = q .view-head; count = q .view-count }; locked = q .locked }
+
+returns-2 : tie.Need-returns-2
+returns-2 c = search needs
+
+pub answer-spec : {M : Type 1} → statement M
+answer-spec =
+    tie.close
+    (tie.spec
+    started-requires
+    fresh-real-requires
+    fresh-imaginary-requires
+    fresh-channels-requires
+    slice-aggregate-fill
+    fill-requires
+    slice-aggregate-fill-2
+    fill-requires-2
+    slice-aggregate-fill-3
+    fill-requires-3
+    slice-aggregate-fill-4
+    fill-requires-4
+    slice-aggregate-fill-5
+    fill-requires-5
+    slice-aggregate-fill-6
+    fill-requires-6
+    slice-aggregate-fill-7
+    fill-requires-7
+    slice-aggregate-fill-8
+    fill-requires-8
+    slice-aggregate-fill-9
+    fill-requires-9
+    fill-parents-requires
+    made-records-requires
+    made-place-requires
+    made-point-requires
+    slice-aggregate-fill-10
+    fill-requires-10
+    slice-aggregate-fill-11
+    fill-requires-11
+    admitted-requires
+    slice-aggregate-write-all
+    write-all-requires
+    returns
+    run-requires
+    returns-2)
