@@ -249,6 +249,35 @@ fn snapshot_digest(digest: u64, s: Snapshot) -> u64 {
     mixed(b, wide32(s.carrier_locked))
 }
 
+// What a block answers besides what it was lent.
+struct BlockAnswer {
+    refusal: u32,
+    count: u64,
+    digest: u64,
+}
+
+fn block_answer(
+    words: &mut [u64; 6757],
+    table: &[f32],
+    samples: &[f32],
+    dibits: &mut [u8],
+    reliabilities: &mut [u8],
+) -> BlockAnswer {
+    let b = receiver::block::take(decoded(words), table, samples, dibits, reliabilities);
+    let verdict = b.verdict;
+    let refusal = number(verdict);
+    let count = b.count as u64;
+    let r = b.receiver;
+    encode(r, words);
+    let snapshot = b.snapshot;
+    let h = mixed(mixed(mixed(0, wide32(refusal)), count), wide32(b.overload));
+    BlockAnswer {
+        refusal,
+        count,
+        digest: snapshot_digest(h, snapshot),
+    }
+}
+
 fn block_in(
     words: &mut [u64; 6757],
     table: &[f32],
@@ -258,22 +287,9 @@ fn block_in(
 ) {
     fill_bytes(&mut *dibits, 250);
     fill_bytes(&mut *reliabilities, 240);
-    let b = receiver::block::take(
-        decoded(words),
-        table,
-        samples,
-        &mut *dibits,
-        &mut *reliabilities,
-    );
-    let verdict = b.verdict;
-    let refusal = number(verdict);
-    let count = b.count as u64;
-    let r = b.receiver;
-    encode(r, &mut *words);
-    let snapshot = b.snapshot;
-    let h = mixed(mixed(mixed(0, wide32(refusal)), count), wide32(b.overload));
-    let g = bytes_digest(snapshot_digest(h, snapshot), dibits);
-    print_answer(refusal, count, bytes_digest(g, reliabilities), words);
+    let a = block_answer(words, table, samples, &mut *dibits, &mut *reliabilities);
+    let h = bytes_digest(bytes_digest(a.digest, dibits), reliabilities);
+    print_answer(a.refusal, a.count, h, words);
 }
 
 pub fn block(
