@@ -9,8 +9,11 @@ use numbers::bits::float32;
 use receiver::refusal::number;
 use receiver::state::Snapshot;
 use replay::mixed;
+use replay::mixed_bytes;
 use replay::mixed_float;
-use replay::mixed_float32;
+use replay::mixed_plane;
+use replay::next;
+use replay::unit;
 use replay::word;
 
 const OUT: i32 = 1;
@@ -41,10 +44,6 @@ pub fn entry_of(head: &[u8]) -> Entry
 
 // ---- what an entry answers
 
-fn wide8(x: u8) -> u64 {
-    x as u64
-}
-
 fn wide32(x: u32) -> u64 {
     x as u64
 }
@@ -54,26 +53,6 @@ fn words_digest(words: &[u64; 6757]) -> u64 {
     let mut i = 0;
     while i < 6757 {
         h = mixed(h, words[i]);
-        i += 1;
-    }
-    h
-}
-
-fn floats_digest(digest: u64, floats: &[f32]) -> u64 {
-    let mut h = digest;
-    let mut i = 0;
-    while i < floats.len() {
-        h = mixed_float32(h, floats[i]);
-        i += 1;
-    }
-    h
-}
-
-fn bytes_digest(digest: u64, lent: &[u8]) -> u64 {
-    let mut h = digest;
-    let mut i = 0;
-    while i < lent.len() {
-        h = mixed(h, wide8(lent[i]));
         i += 1;
     }
     h
@@ -136,7 +115,7 @@ pub fn set_up(e: Entry, words: &mut [u64; 6757], table: &mut [f32]) {
     let room = e.fourth as usize;
     if room <= table.len() {
         let refusal = set_up_in(e, &mut *words, &mut table[..room]);
-        let answer = mixed(floats_digest(0, table), wide32(refusal));
+        let answer = mixed(mixed_plane(0, table), wide32(refusal));
         print_answer(refusal, 0, answer, words);
     }
 }
@@ -148,7 +127,7 @@ fn read_in(words: &[u64; 6757], lent: &mut [f32]) {
     let refusal = number(verdict);
     let count = p.count as u64;
     let h = mixed_float(mixed(mixed(0, wide32(refusal)), count), p.error);
-    print_answer(refusal, count, floats_digest(h, lent), words);
+    print_answer(refusal, count, mixed_plane(h, lent), words);
 }
 
 pub fn read(e: Entry, words: &[u64; 6757], floats: &mut [f32]) {
@@ -196,9 +175,8 @@ fn seed_samples(seed: u64, gain: f32, floats: &mut [f32], n: usize)
     let mut s = seed;
     let mut i = 0;
     while i < n {
-        s = mixed(s, 1);
-        floats[i] = (std::num::nearest_u32_to_f32((s / 0x100_0000_0000) as u32) / 8388608.0 - 1.0)
-            * gain;
+        s = next(s);
+        floats[i] = unit(s) * gain;
         i += 1;
     }
 }
@@ -288,7 +266,7 @@ fn block_in(
     fill_bytes(&mut *dibits, 250);
     fill_bytes(&mut *reliabilities, 240);
     let a = block_answer(words, table, samples, &mut *dibits, &mut *reliabilities);
-    let h = bytes_digest(bytes_digest(a.digest, dibits), reliabilities);
+    let h = mixed_bytes(mixed_bytes(a.digest, dibits), reliabilities);
     print_answer(a.refusal, a.count, h, words);
 }
 

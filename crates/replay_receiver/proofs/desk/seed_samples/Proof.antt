@@ -15,14 +15,11 @@ abbrev μ-loop : tie.MeasureT-loop
 loop-holds : tie.Need-loop-holds Inv-loop μ-loop
 loop-holds c = (search needs, search needs)
 
-mixed-requires : tie.Need-mixed-requires Inv-loop μ-loop
-mixed-requires c κs = search needs
+next-requires : tie.Need-next-requires Inv-loop μ-loop
+next-requires c κs = search needs
 
-cast-nearest-u32-to-f32 : tie.Need-cast-nearest-u32-to-f32 Inv-loop μ-loop
-cast-nearest-u32-to-f32 c = search needs
-
-nearest-u32-to-f32-requires : tie.Need-nearest-u32-to-f32-requires Inv-loop μ-loop
-nearest-u32-to-f32-requires c κs = search needs
+unit-requires : tie.Need-unit-requires Inv-loop μ-loop
+unit-requires c κs = search needs
 
 mul-floats : tie.Need-mul-floats Inv-loop μ-loop
 mul-floats c = search needs
@@ -52,9 +49,8 @@ seed-samples-spec =
     Inv-loop
     μ-loop
     loop-holds
-    mixed-requires
-    cast-nearest-u32-to-f32
-    nearest-u32-to-f32-requires
+    next-requires
+    unit-requires
     mul-floats
     slice-write-floats
     add-i

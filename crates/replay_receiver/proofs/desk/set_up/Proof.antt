@@ -17,8 +17,8 @@ slice-aggregate-set-up-in c = sym (length-take-le _ _ (c .before .before .if1 .t
 set-up-in-requires : tie.Need-set-up-in-requires
 set-up-in-requires c κs = search needs
 
-floats-digest-requires : tie.Need-floats-digest-requires
-floats-digest-requires c κs = search needs
+mixed-plane-requires : tie.Need-mixed-plane-requires
+mixed-plane-requires c κs = search needs
 
 wide32-requires : tie.Need-wide32-requires
 wide32-requires c κs = search needs
@@ -49,7 +49,7 @@ set-up-spec =
     slice-relend-prefix-set-up-in
     slice-aggregate-set-up-in
     set-up-in-requires
-    floats-digest-requires
+    mixed-plane-requires
     wide32-requires
     mixed-requires
     print-answer-requires
