@@ -1,41 +1,8 @@
-//! What bench.rattle does, with the upstream's chain: bench/chain.sh puts the oracle's opened copy of
-//! the upstream beside this file.
+// What bench.rattle does, with the upstream's chain; bench/part puts what it includes beside it.
 
-#[allow(dead_code)]
-mod dsp;
-#[allow(dead_code)]
-mod equalizer;
-#[allow(dead_code)]
-mod routines;
-#[allow(dead_code)]
-mod sequence;
-#[allow(dead_code)]
-mod signal;
+include!("shared.rs");
 
-use dsp::{Complex32, SymbolChain};
-
-fn mixed(h: u64, x: u64) -> u64 {
-    let mut h = h ^ x;
-    h = h.wrapping_add(h << 21);
-    h ^= h >> 24;
-    h = h.wrapping_add(h << 3);
-    h = h.wrapping_add(h << 8);
-    h ^ (h >> 14)
-}
-
-fn mixed_float(h: u64, x: f64) -> u64 {
-    mixed(h, if x.is_nan() { 0x7ff8_0000_0000_0000 } else { x.to_bits() })
-}
-
-fn random(s: u64) -> u64 {
-    let a = s ^ (s << 13);
-    let b = a ^ (a >> 7);
-    b ^ (b << 17)
-}
-
-fn unit(s: u64) -> f32 {
-    (s >> 40) as f32 / 8388608.0 - 1.0
-}
+use dsp::SymbolChain;
 
 fn point(eighth: usize) -> f32 {
     const S: f32 = 0.70710677;

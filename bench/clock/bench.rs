@@ -1,42 +1,8 @@
-//! What bench.rattle does, with the upstream's clock and mixer: bench/clock.sh puts the oracle's
-//! opened copy of the upstream and the mixer's lines (mixer.rs) beside this file.
+// What bench.rattle does, with the upstream's clock and mixer; bench/part puts what it includes beside it.
 
-#[allow(dead_code)]
-mod dsp;
-#[allow(dead_code)]
-mod equalizer;
-#[allow(dead_code)]
-mod routines;
-#[allow(dead_code)]
-mod sequence;
-#[allow(dead_code)]
-mod signal;
+include!("shared.rs");
 
 use dsp::{ClockRecovery, Complex32};
-
-fn mixed(h: u64, x: u64) -> u64 {
-    let mut h = h ^ x;
-    h = h.wrapping_add(h << 21);
-    h ^= h >> 24;
-    h = h.wrapping_add(h << 3);
-    h = h.wrapping_add(h << 8);
-    h ^ (h >> 14)
-}
-
-fn mixed32(h: u64, x: f32) -> u64 {
-    mixed(h, if x.is_nan() { 0x7fc0_0000 } else { x.to_bits() as u64 })
-}
-
-/// Numbers in -1..1 from a seed.
-fn numbers_from(seed: u64) -> [f32; 1024] {
-    let mut s = seed;
-    std::array::from_fn(|_| {
-        s ^= s << 13;
-        s ^= s >> 7;
-        s ^= s << 17;
-        (s >> 40) as f32 / 8388608.0 - 1.0
-    })
-}
 
 /// The arm of a phase, for the digest alone.
 fn arm_of(phase: f32) -> u64 {

@@ -1,11 +1,7 @@
-//! What bench.rattle does, with the first half of the upstream's `Resampler::process`, which
-//! bench/decimator.sh takes out of dsp.rs into half.rs.
+// What bench.rattle does, with the first half of the upstream's `Resampler::process`; bench/part puts
+// what it includes beside it.
 
-#[derive(Clone, Copy, Default)]
-struct Complex32 {
-    real: f32,
-    imaginary: f32,
-}
+include!("shared.rs");
 
 struct Decimator {
     decimation: usize,
@@ -17,15 +13,6 @@ struct Decimator {
 
 include!("half.rs");
 
-fn mixed(h: u64, x: u64) -> u64 {
-    let mut h = h ^ x;
-    h = h.wrapping_add(h << 21);
-    h ^= h >> 24;
-    h = h.wrapping_add(h << 3);
-    h = h.wrapping_add(h << 8);
-    h ^ (h >> 14)
-}
-
 fn main() {
     let mut line = String::new();
     std::io::stdin().read_line(&mut line).unwrap();
@@ -35,7 +22,7 @@ fn main() {
     let samples: Vec<f32> = (0..8192)
         .map(|_| {
             s = mixed(s, 12345);
-            (s >> 40) as f32 / 8388608.0 - 1.0
+            unit(s)
         })
         .collect();
     let mut decimator = Decimator {

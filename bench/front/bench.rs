@@ -1,31 +1,8 @@
-//! What bench.rattle does, with the upstream's mixer and resampler: bench/front.sh puts the oracle's
-//! opened copy of the upstream and the mixer's lines (mixer.rs) beside this file.
+// What bench.rattle does, with the upstream's mixer and resampler; bench/part puts what it includes beside it.
 
-#[allow(dead_code)]
-mod dsp;
-#[allow(dead_code)]
-mod equalizer;
-#[allow(dead_code)]
-mod routines;
-#[allow(dead_code)]
-mod sequence;
-#[allow(dead_code)]
-mod signal;
+include!("shared.rs");
 
-use dsp::{Complex32, Resampler};
-
-fn mixed(h: u64, x: u64) -> u64 {
-    let mut h = h ^ x;
-    h = h.wrapping_add(h << 21);
-    h ^= h >> 24;
-    h = h.wrapping_add(h << 3);
-    h = h.wrapping_add(h << 8);
-    h ^ (h >> 14)
-}
-
-fn mixed32(h: u64, x: f32) -> u64 {
-    mixed(h, if x.is_nan() { 0x7fc0_0000 } else { x.to_bits() as u64 })
-}
+use dsp::Resampler;
 
 struct Front {
     resampler: Resampler,
@@ -56,7 +33,7 @@ fn run(rate: f64, blocks: u64) -> u64 {
     let mut s = 1;
     let mut number = || {
         s = mixed(s, 12345);
-        (s >> 40) as f32 / 8388608.0 - 1.0
+        unit(s)
     };
     let samples: Vec<Complex32> = (0..1024)
         .map(|_| Complex32 {

@@ -1,27 +1,8 @@
-//! What bench.rattle does, with the upstream's `Resampler`: bench/resampler.sh puts the oracle's
-//! opened copy of the upstream beside this file.
+// What bench.rattle does, with the upstream's `Resampler`; bench/part puts what it includes beside it.
 
-#[allow(dead_code)]
-mod dsp;
-#[allow(dead_code)]
-mod equalizer;
-#[allow(dead_code)]
-mod routines;
-#[allow(dead_code)]
-mod sequence;
-#[allow(dead_code)]
-mod signal;
+include!("shared.rs");
 
-use dsp::{Complex32, Resampler};
-
-fn mixed(h: u64, x: u64) -> u64 {
-    let mut h = h ^ x;
-    h = h.wrapping_add(h << 21);
-    h ^= h >> 24;
-    h = h.wrapping_add(h << 3);
-    h = h.wrapping_add(h << 8);
-    h ^ (h >> 14)
-}
+use dsp::Resampler;
 
 /// Rounds of 1,024 values, two outputs to each.
 fn passes(rate: f64, rounds: u64) -> u64 {
@@ -29,7 +10,7 @@ fn passes(rate: f64, rounds: u64) -> u64 {
     let values: Vec<f32> = (0..2048)
         .map(|_| {
             s = mixed(s, 12345);
-            (s >> 40) as f32 / 8388608.0 - 1.0
+            unit(s)
         })
         .collect();
     let mut resampler = Resampler::new(rate);

@@ -1,43 +1,9 @@
-//! What bench.rattle does, with the upstream's view and equalizer. `UPSTREAM` is the folder that has
-//! signal.rs and equalizer.rs; bench/signal.sh puts copies of both beside this file.
+// What bench.rattle does, with the upstream's view and equalizer; bench/part puts what it includes beside it.
 
-mod dsp {
-    #[derive(Clone, Copy, Default)]
-    pub struct Complex32 {
-        pub real: f32,
-        pub imaginary: f32,
-    }
-}
-mod equalizer;
-mod signal;
+include!("shared.rs");
 
-use dsp::Complex32;
 use equalizer::Equalizer;
 use signal::SignalView;
-
-fn mixed(h: u64, x: u64) -> u64 {
-    let mut h = h ^ x;
-    h = h.wrapping_add(h << 21);
-    h ^= h >> 24;
-    h = h.wrapping_add(h << 3);
-    h = h.wrapping_add(h << 8);
-    h ^ (h >> 14)
-}
-
-fn mixed32(h: u64, x: f32) -> u64 {
-    mixed(h, if x.is_nan() { 0x7fc0_0000 } else { x.to_bits() as u64 })
-}
-
-/// Numbers in -1..1 from a seed.
-fn numbers_from(seed: u64) -> [f32; 1024] {
-    let mut s = seed;
-    std::array::from_fn(|_| {
-        s ^= s << 13;
-        s ^= s >> 7;
-        s ^= s << 17;
-        (s >> 40) as f32 / 8388608.0 - 1.0
-    })
-}
 
 fn symbols() -> [Complex32; 1024] {
     let (xs, ys) = (numbers_from(1), numbers_from(2));
