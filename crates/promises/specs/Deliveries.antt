@@ -155,6 +155,10 @@ values-most conjugated table xs (suc n) h =
     let b = values-two conjugated table (front.frontOf conjugated table xs n h .rung) (front.sampleAt xs n) in
     simp length-append (omega arith)
 
+pub total-after : (r : Receiver) (table xs : List Float) → afterOf r table xs .total ≡ r .total + countOf xs
+unfolding afterOf
+total-after r table xs = refl
+
 -- k is at most 2n
 pub delivered-few : (r : Receiver) (table xs : List Float) → length (deliveriesOf r table xs) ≤ 2 * countOf xs
 unfolding deliveriesOf

@@ -1,2 +1,5 @@
 pub mod Deliveries
 pub mod Written
+pub mod InTurn
+pub mod Accepts
+pub mod Compose
