@@ -5,10 +5,16 @@ use mathlib.Core.List.{List, [], _∷_}
 use Prim.Native.Nat.{ℕ, _+_, _*_, _/_, _%_, _^_, _≤_, _<_}
 use native.Mathlib.Omega.{arith}
 use lib.Dec.{T, ltb, eqb}
-use lib.ListN.{length}
+use lib.IntN.{ℤ, pos}
+use lib.ListN.{length, length-replicate}
 use lib.Ieee.{Float, binary64, fits}
-use borrow.Author.Tests.{le-ltb, ne-eqb}
+use lib.Ieee.Fits.{ofInt-fits}
+use borrow.Author.Tests.{le-ltb, ne-eqb, eqb-false}
+use Rattle.laws.specs.Places.{length-upto}
 use Rattle.laws.specs.Branches.{not-false}
+use Rattle.resampler.specs.declared.dimensions.Dimensions.{Dimensions}
+use Rattle.resampler.specs.Dimensions as resampler
+use Rattle.sequence.specs.Sequence as sequence
 use Rattle.front.specs.Front as front
 use Rattle.front.specs.Steps as steps
 use Rattle.chain.specs.Labels.{conjugates}
@@ -16,6 +22,8 @@ use Rattle.chain.specs.Rows.{chainOf}
 use Rattle.chain.specs.RowLaws.{Left, chain-left}
 use Rattle.receiver.specs.declared.state.Receiver.{Receiver}
 use Rattle.receiver.specs.Refusal.{Check, firstOf}
+use Rattle.receiver.specs.State.{zero32, freshFront, freshReceiver}
+use Rattle.receiver.specs.Setup.{setupChecks, setupBy, setupOf}
 use Rattle.receiver.specs.Samples.{countOf, finiteOf}
 use Rattle.receiver.specs.Admitted.{admittedOf}
 use Rattle.receiver.specs.Fits.{fits-from, fits-to}
@@ -23,7 +31,7 @@ use Rattle.receiver.specs.Run.{Whole, frontAt, wholeOf, Going, ReadyRun}
 use Rattle.receiver.specs.Block.{countRefused, roomRefused, blockChecks, laterChecks, judgedOf, startOf, receiverOf, blockOf}
 use Rattle.receiver.specs.BlockWays.{counted}
 use Rattle.receiver.specs.BlockLaws.{ReadyBlock, ready-block, numbers-of, run-asks, run-admitted}
-use Rattle.promises.specs.Deliveries.{number-is, afterOf}
+use Rattle.promises.specs.Deliveries.{afterOf, number-is, accepted-is}
 
 -- rooms that suffice for n samples: 2n+4 dibits, 4n+8 reliability bytes
 pub record Roomy (xs : List Float) (ds rs : List ℕ) : Type 0 where
@@ -152,3 +160,28 @@ module _ (r : Receiver) (table xs : List Float) (ds rs : List ℕ) (t : Typed r)
         };
         arm = ran .kept .next .arm;
       }
+
+-- EVERY STATE FROM AN ACCEPTED CALL is admitted and typed: a block's
+pub block-kept : (r : Receiver) (table xs : List Float) (ds rs : List ℕ) → Typed r → blockOf r table xs ds rs .number ≡ 0 → Kept r (blockOf r table xs ds rs .receiver)
+block-kept r table xs ds rs t h = rw (accepted-is r table xs ds rs h) (passes-kept r table xs ds rs t (accepted-passes r table xs ds rs h))
+
+-- and a setup's
+fresh-typed : (rate offset : Float) (profile : ℤ) (d : Dimensions) → Typed (freshReceiver (freshFront rate offset d) profile)
+unfolding freshReceiver resampler.freshOf sequence.freshReal
+fresh-typed rate offset profile d = record {
+  next = ofInt-fits binary64 (pos (d .arm / 2));
+  keeper-real = length-replicate 64 zero32;
+  keeper-imaginary = length-replicate 64 zero32;
+  channel-real = length-upto sequence.freshTap 256;
+  channel-imaginary = length-replicate 256 zero32;
+  costs = length-replicate 64 zero32;
+  parents = length-replicate {A = ℕ} 2048 0;
+}
+
+pub setup-typed : (rate offset : Float) (profile : ℤ) (table : List Float) → setupOf rate offset profile table .number ≡ 0 → Typed (setupOf rate offset profile table .receiver)
+unfolding setupOf
+setup-typed rate offset profile table h = go (firstOf (setupChecks rate offset (length table))) (eqb (firstOf (setupChecks rate offset (length table))) 0) refl h
+  where
+    go : (n : ℕ) (b : Bool) → eqb n 0 ≡ b → setupBy n rate offset profile table .number ≡ 0 → Typed (setupBy n rate offset profile table .receiver)
+    go n true e h = rw e (fresh-typed rate offset profile (resampler.sizedOf rate))
+    go n false e h = absurd (eqb-false n 0 e (rw e at h))

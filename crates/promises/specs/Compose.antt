@@ -36,10 +36,10 @@ pub record InTurn (first second whole : Outcome) : Type 0 where
   pub reliabilities : bytesOf whole ≡ bytesOf first ++ bytesOf second
 
 -- an accepted block delivers its list
-dibits-are : (r : Receiver) (table xs : List Float) (ds rs : List ℕ) → dibitsOf (outcomeOf r table xs ds rs) ≡ dibitsIn (deliveriesOf r table xs)
+pub dibits-are : (r : Receiver) (table xs : List Float) (ds rs : List ℕ) → dibitsOf (outcomeOf r table xs ds rs) ≡ dibitsIn (deliveriesOf r table xs)
 dibits-are r table xs ds rs = let l = deliveriesOf r table xs in take-at (dibitsIn l) _ (length l) (length-dibits l)
 
-bytes-are : (r : Receiver) (table xs : List Float) (ds rs : List ℕ) → bytesOf (outcomeOf r table xs ds rs) ≡ bytesIn (deliveriesOf r table xs)
+pub bytes-are : (r : Receiver) (table xs : List Float) (ds rs : List ℕ) → bytesOf (outcomeOf r table xs ds rs) ≡ bytesIn (deliveriesOf r table xs)
 bytes-are r table xs ds rs = let l = deliveriesOf r table xs in take-at (bytesIn l) _ (2 * length l) (length-bytes l)
 
 joined : (f s w first second whole : List ℕ) → first ≡ f → second ≡ s → whole ≡ w → w ≡ f ++ s → whole ≡ first ++ second

@@ -3,3 +3,4 @@ pub mod Written
 pub mod InTurn
 pub mod Accepts
 pub mod Compose
+pub mod Cutting
