@@ -1,7 +1,7 @@
 -- When a block is accepted, and that the state that it returns can be given to the next. Assumes nothing.
-use mathlib.Core.Path.{_≡_, refl, sym, ap, _∙_}
-use mathlib.Core.Bool.{Bool, true, false, cond, not, true≢false}
-use mathlib.Core.List.{List, [], _∷_}
+use mathlib.Core.Path.{_≡_, refl, sym, _∙_}
+use mathlib.Core.Bool.{Bool, true, false, cond, not}
+use mathlib.Core.List.{List, []}
 use Prim.Native.Nat.{ℕ, _+_, _*_, _/_, _%_, _^_, _≤_, _<_}
 use native.Mathlib.Omega.{arith}
 use lib.Dec.{T, ltb, eqb}
@@ -21,14 +21,14 @@ use Rattle.chain.specs.Labels.{conjugates}
 use Rattle.chain.specs.Rows.{chainOf}
 use Rattle.chain.specs.RowLaws.{Left, chain-left}
 use Rattle.receiver.specs.declared.state.Receiver.{Receiver}
-use Rattle.receiver.specs.Refusal.{Check, firstOf}
+use Rattle.receiver.specs.Refusal.{firstOf}
 use Rattle.receiver.specs.State.{zero32, freshFront, freshReceiver}
 use Rattle.receiver.specs.Setup.{setupChecks, setupBy, setupOf}
 use Rattle.receiver.specs.Samples.{countOf, finiteOf}
 use Rattle.receiver.specs.Admitted.{admittedOf}
-use Rattle.receiver.specs.Fits.{fits-from, fits-to}
-use Rattle.receiver.specs.Run.{Whole, frontAt, wholeOf, Going, ReadyRun}
-use Rattle.receiver.specs.Block.{countRefused, roomRefused, blockChecks, laterChecks, judgedOf, startOf, receiverOf, blockOf}
+use Rattle.receiver.specs.Fits.{fits-from}
+use Rattle.receiver.specs.Run.{frontAt, wholeOf, Going, ReadyRun}
+use Rattle.receiver.specs.Block.{countRefused, roomRefused, judgedOf, startOf, blockOf}
 use Rattle.receiver.specs.BlockWays.{counted}
 use Rattle.receiver.specs.BlockLaws.{ReadyBlock, ready-block, numbers-of, run-asks, run-admitted}
 use Rattle.promises.specs.Deliveries.{afterOf, number-is, accepted-is}
@@ -58,6 +58,7 @@ unfolding countRefused
 uncounted total floats few even room = rw (le-ltb 65536 (floats / 2) few, ne-eqb (floats % 2) 1 (λ e. omega arith), le-ltb (2 ^ 52) (total + floats / 2) room)
 
 module _ (r : Receiver) (table xs : List Float) (ds rs : List ℕ) where
+  -- accepted exactly where no check applies
   pub accepted-passes : blockOf r table xs ds rs .number ≡ 0 → Passes r table xs ds rs
   unfolding judgedOf
   accepted-passes h =
@@ -92,7 +93,7 @@ module _ (r : Receiver) (table xs : List Float) (ds rs : List ℕ) where
 
 -- ---- the state that is returned
 
--- what the type of a state says of its values and an admitted test cannot: the next output is an f64, and the planes have their sizes
+-- what the type of a state says and its admitted test does not: the next output is an f64, and these planes have their sizes. Every value of the type is so, and `setup-typed` and `block-kept` show it of every state from an accepted call
 pub record Typed (r : Receiver) : Type 0 where
   pub next : T (fits binary64 (r .front .resampler .next))
   pub keeper-real : length (r .«keeper_real») ≡ 64
@@ -102,7 +103,7 @@ pub record Typed (r : Receiver) : Type 0 where
   pub costs : length (r .costs) ≡ 64
   pub parents : length (r .parents) ≡ 2048
 
--- what an accepted block leaves of it
+-- what an accepted block keeps
 pub record Kept (r s : Receiver) : Type 0 where
   pub admitted : admittedOf s ≡ true
   pub typed : Typed s
@@ -143,7 +144,6 @@ module _ (r : Receiver) (table xs : List Float) (ds rs : List ℕ) (t : Typed r)
   unfolding wholeOf
   going = record { high = omega arith; next = ran .kept .next; rung = refl; lent = refl; left = left }
 
-  -- every state from an accepted block is admitted
   pub passes-kept : Kept r (afterOf r table xs)
   unfolding afterOf wholeOf chainOf
   passes-kept =
@@ -161,11 +161,10 @@ module _ (r : Receiver) (table xs : List Float) (ds rs : List ℕ) (t : Typed r)
         arm = ran .kept .next .arm;
       }
 
--- EVERY STATE FROM AN ACCEPTED CALL is admitted and typed: a block's
+-- EVERY STATE FROM AN ACCEPTED BLOCK is admitted, and typed where the state given is
 pub block-kept : (r : Receiver) (table xs : List Float) (ds rs : List ℕ) → Typed r → blockOf r table xs ds rs .number ≡ 0 → Kept r (blockOf r table xs ds rs .receiver)
 block-kept r table xs ds rs t h = rw (accepted-is r table xs ds rs h) (passes-kept r table xs ds rs t (accepted-passes r table xs ds rs h))
 
--- and a setup's
 fresh-typed : (rate offset : Float) (profile : ℤ) (d : Dimensions) → Typed (freshReceiver (freshFront rate offset d) profile)
 unfolding freshReceiver resampler.freshOf sequence.freshReal
 fresh-typed rate offset profile d = record {
@@ -178,6 +177,7 @@ fresh-typed rate offset profile d = record {
   parents = length-replicate {A = ℕ} 2048 0;
 }
 
+-- and every state from an accepted setup is typed
 pub setup-typed : (rate offset : Float) (profile : ℤ) (table : List Float) → setupOf rate offset profile table .number ≡ 0 → Typed (setupOf rate offset profile table .receiver)
 unfolding setupOf
 setup-typed rate offset profile table h = go (firstOf (setupChecks rate offset (length table))) (eqb (firstOf (setupChecks rate offset (length table))) 0) refl h

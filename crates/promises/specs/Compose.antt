@@ -1,29 +1,29 @@
--- Two blocks one after the other give what one block of both gives, and any cutting into blocks gives the same. Assumes nothing.
-use mathlib.Core.Path.{_≡_, refl, sym, ap, _∙_, subst}
-use mathlib.Core.Bool.{Bool, true, false, _&&_}
-use mathlib.Core.List.{List, [], _∷_, _++_}
-use Prim.Native.Nat.{ℕ, _+_, _*_, _/_, _%_, _^_, _≤_}
+-- Two blocks one after the other give what one block of both gives. Assumes nothing.
+use mathlib.Core.Path.{_≡_, refl, sym, ap, _∙_}
+use mathlib.Core.Bool.{true}
+use mathlib.Core.List.{List, _++_}
+use Prim.Native.Nat.{ℕ, _+_, _*_, _%_, _≤_}
 use native.Mathlib.Omega.{arith}
 use lib.ListN.{length, take, length-append}
 use lib.Seq.{take-at}
 use lib.Ieee.{Float}
 use Rattle.receiver.specs.declared.state.Receiver.{Receiver}
 use Rattle.receiver.specs.State.{snapshotOf}
-use Rattle.receiver.specs.Samples.{countOf, finiteOf, overloadOf}
+use Rattle.receiver.specs.Samples.{countOf, finiteOf}
 use Rattle.receiver.specs.Loud.{and-true}
 use Rattle.receiver.specs.Block.{Outcome, blockOf}
-use Rattle.promises.specs.Deliveries.{Delivery, dibitsIn, bytesIn, deliveriesOf, afterOf, outcomeOf, length-dibits, length-bytes, dibits-append, bytes-append, total-after, accepted-is}
-use Rattle.promises.specs.InTurn.{count-append, finite-append, overload-append, after-append, delivered-append}
-use Rattle.promises.specs.Accepts.{Roomy, Passes, Typed, Kept, accepted-passes, passes-accepted, passes-kept}
+use Rattle.promises.specs.Deliveries.{dibitsIn, bytesIn, deliveriesOf, afterOf, outcomeOf, length-dibits, length-bytes, dibits-append, bytes-append, total-after, accepted-is}
+use Rattle.promises.specs.Append.{count-append, finite-append, overload-append, after-append, delivered-append}
+use Rattle.promises.specs.Accepts.{Roomy, Passes, Typed, accepted-passes, passes-accepted, passes-kept}
 
 -- what a block delivered: its first k dibits, and its first 2k reliability bytes
-abbrev pub dibitsOf : Outcome → List ℕ
-dibitsOf o = take (o .count) (o .dibits)
+abbrev pub deliveredDibits : Outcome → List ℕ
+deliveredDibits o = take (o .count) (o .dibits)
 
-abbrev pub bytesOf : Outcome → List ℕ
-bytesOf o = take (2 * o .count) (o .reliabilities)
+abbrev pub deliveredBytes : Outcome → List ℕ
+deliveredBytes o = take (2 * o .count) (o .reliabilities)
 
--- three accepted blocks, of which the third gives what the first and the second give one after the other
+-- three accepted blocks, of which the whole gives what the first and then the second give: the second's state and Snapshot, k and overload summed, and what both delivered, in order
 pub record InTurn (first second whole : Outcome) : Type 0 where
   pub first-accepted : first .number ≡ 0
   pub second-accepted : second .number ≡ 0
@@ -32,14 +32,14 @@ pub record InTurn (first second whole : Outcome) : Type 0 where
   pub snapshot : whole .snapshot ≡ second .snapshot
   pub count : whole .count ≡ first .count + second .count
   pub overload : whole .overload ≡ first .overload + second .overload
-  pub dibits : dibitsOf whole ≡ dibitsOf first ++ dibitsOf second
-  pub reliabilities : bytesOf whole ≡ bytesOf first ++ bytesOf second
+  pub dibits : deliveredDibits whole ≡ deliveredDibits first ++ deliveredDibits second
+  pub reliabilities : deliveredBytes whole ≡ deliveredBytes first ++ deliveredBytes second
 
 -- an accepted block delivers its list
-pub dibits-are : (r : Receiver) (table xs : List Float) (ds rs : List ℕ) → dibitsOf (outcomeOf r table xs ds rs) ≡ dibitsIn (deliveriesOf r table xs)
+pub dibits-are : (r : Receiver) (table xs : List Float) (ds rs : List ℕ) → deliveredDibits (outcomeOf r table xs ds rs) ≡ dibitsIn (deliveriesOf r table xs)
 dibits-are r table xs ds rs = let l = deliveriesOf r table xs in take-at (dibitsIn l) _ (length l) (length-dibits l)
 
-pub bytes-are : (r : Receiver) (table xs : List Float) (ds rs : List ℕ) → bytesOf (outcomeOf r table xs ds rs) ≡ bytesIn (deliveriesOf r table xs)
+pub bytes-are : (r : Receiver) (table xs : List Float) (ds rs : List ℕ) → deliveredBytes (outcomeOf r table xs ds rs) ≡ bytesIn (deliveriesOf r table xs)
 bytes-are r table xs ds rs = let l = deliveriesOf r table xs in take-at (bytesIn l) _ (2 * length l) (length-bytes l)
 
 joined : (f s w first second whole : List ℕ) → first ≡ f → second ≡ s → whole ≡ w → w ≡ f ++ s → whole ≡ first ++ second
@@ -74,10 +74,10 @@ module _ (r : Receiver) (table xs ys : List Float) (ds rs ds1 rs1 ds2 rs2 : List
       let q = ap (λ (o : Outcome). blockOf (o .receiver) table ys ds2 rs2) p ∙ accepted-is (afterOf r table xs) table ys ds2 rs2 s in
       in-turn-as _ _ _ _ _ _ p q (accepted-is r table (xs ++ ys) ds rs w) (outcomes even)
 
-  -- A BLOCK IN TWO PARTS: where the block of both is accepted, so is the block of the first samples, and from the state that it returns the block of the others; and they give what the block of both gives
-  pub apart : Typed r → length xs % 2 ≡ 0 → blockOf r table (xs ++ ys) ds rs .number ≡ 0 → Roomy xs ds1 rs1 → Roomy ys ds2 rs2
+  -- A BLOCK IN TWO: where the block of both is accepted, so are, with rooms that suffice, the block of the first samples and, from the state that it returns, the block of the others; and these two give what it gives
+  pub block-in-two : Typed r → length xs % 2 ≡ 0 → blockOf r table (xs ++ ys) ds rs .number ≡ 0 → Roomy xs ds1 rs1 → Roomy ys ds2 rs2
       → InTurn (blockOf r table xs ds1 rs1) (blockOf (blockOf r table xs ds1 rs1 .receiver) table ys ds2 rs2) (blockOf r table (xs ++ ys) ds rs)
-  apart t e w room1 room2 =
+  block-in-two t e w room1 room2 =
       let even : length xs ≡ 2 * countOf xs = omega arith in
       let k = accepted-passes r table (xs ++ ys) ds rs w in
       let n = count-append xs ys even in
@@ -94,10 +94,10 @@ module _ (r : Receiver) (table xs ys : List Float) (ds rs ds1 rs1 ds2 rs2 : List
       let second : Passes (afterOf r table xs) table ys ds2 rs2 = record { admitted = g .admitted; table-in = omega arith; few = omega arith; even = omega arith; total-in = omega arith; room = room2; finite = f .1 } in
       all-accepted even (passes-accepted r table xs ds1 rs1 first) (passes-accepted (afterOf r table xs) table ys ds2 rs2 second) w
 
-  -- TWO BLOCKS AS ONE: where a block is accepted, and from the state that it returns another, both together have at most 65,536 samples and the rooms suffice, the block of both is accepted
-  pub together : blockOf r table xs ds1 rs1 .number ≡ 0 → blockOf (blockOf r table xs ds1 rs1 .receiver) table ys ds2 rs2 .number ≡ 0 → countOf (xs ++ ys) ≤ 65536 → Roomy (xs ++ ys) ds rs
+  -- TWO BLOCKS AS ONE: where a block is accepted and, from the state that it returns, another, and both have at most 65,536 samples, the block of both is accepted, with rooms that suffice; and it gives what the two give
+  pub two-blocks-as-one : blockOf r table xs ds1 rs1 .number ≡ 0 → blockOf (blockOf r table xs ds1 rs1 .receiver) table ys ds2 rs2 .number ≡ 0 → countOf (xs ++ ys) ≤ 65536 → Roomy (xs ++ ys) ds rs
       → InTurn (blockOf r table xs ds1 rs1) (blockOf (blockOf r table xs ds1 rs1 .receiver) table ys ds2 rs2) (blockOf r table (xs ++ ys) ds rs)
-  together f s few room =
+  two-blocks-as-one f s few room =
       let p = accepted-is r table xs ds1 rs1 f in
       let s′ : blockOf (afterOf r table xs) table ys ds2 rs2 .number ≡ 0 = rw p at s in
       let k = accepted-passes r table xs ds1 rs1 f in

@@ -1,7 +1,7 @@
 -- Any cutting of samples into accepted blocks gives the same dibits, the same reliabilities and the same state. Assumes nothing.
-use mathlib.Core.Path.{_≡_, refl, sym, ap, _∙_, subst}
+use mathlib.Core.Path.{_≡_, sym, ap, _∙_}
 use mathlib.Core.List.{List, [], _∷_, _++_}
-use Prim.Native.Nat.{ℕ, _+_, _*_, _%_, _≤_}
+use Prim.Native.Nat.{ℕ, _+_, _*_, _%_}
 use native.Mathlib.Omega.{arith}
 use lib.ListN.{length, length-append}
 use lib.Ieee.{Float}
@@ -12,10 +12,10 @@ use Rattle.receiver.specs.declared.state.Receiver.{Receiver}
 use Rattle.receiver.specs.Samples.{countOf, overloadOf}
 use Rattle.receiver.specs.Run.{wholeOf}
 use Rattle.receiver.specs.Block.{startOf, receiverOf, Outcome, blockOf}
-use Rattle.promises.specs.Deliveries.{deliveries, dibitsIn, bytesIn, deliveriesOf, afterOf, outcomeOf, length-dibits, dibits-append, bytes-append, accepted-is}
-use Rattle.promises.specs.InTurn.{count-append, overload-append, after-append, delivered-append}
+use Rattle.promises.specs.Deliveries.{deliveries, dibitsIn, bytesIn, deliveriesOf, afterOf, outcomeOf, dibits-append, bytes-append, accepted-is}
+use Rattle.promises.specs.Append.{count-append, overload-append, after-append, delivered-append}
 use Rattle.promises.specs.Accepts.{Roomy, Typed, accepted-passes, block-kept}
-use Rattle.promises.specs.Compose.{dibitsOf, bytesOf, dibits-are, bytes-are, apart}
+use Rattle.promises.specs.Compose.{deliveredDibits, deliveredBytes, dibits-are, bytes-are, block-in-two}
 
 -- a call: its samples, and the rooms lent to it
 pub record Call : Type 0 where
@@ -35,7 +35,7 @@ pub record Session : Type 0 where
   pub reliabilities : List ℕ
 
 abbrev pub after : Outcome → Session → Session
-after o s = record { receiver = s .receiver; count = o .count + s .count; overload = o .overload + s .overload; dibits = dibitsOf o ++ s .dibits; reliabilities = bytesOf o ++ s .reliabilities }
+after o s = record { receiver = s .receiver; count = o .count + s .count; overload = o .overload + s .overload; dibits = deliveredDibits o ++ s .dibits; reliabilities = deliveredBytes o ++ s .reliabilities }
 
 -- calls one after the other, each from the state that the one before it returned
 abbrev pub sessionOf : Receiver → List Float → List Call → Session
@@ -87,7 +87,7 @@ session-is r table (c ∷ calls) h =
     ∙ ap (λ (o : Outcome). after o (bySamples (o .receiver) table (samplesIn calls))) (accepted-is r table (c .samples) (c .dibits) (c .reliabilities) (h .0))
     ∙ more r table (c .samples) (samplesIn calls) (c .dibits) (c .reliabilities) (accepted-passes r table (c .samples) (c .dibits) (c .reliabilities) (h .0) .even)
 
--- ANY CUTTING: calls that take the same samples, each accepted, give the same dibits and reliabilities, the same k and overload in all, and the same state at the end, wherever the blocks begin and end
+-- ANY CUTTING: accepted calls that take the same samples give the same dibits and reliabilities, the same k and overload in all, and the same state at the end, wherever their blocks begin and end
 pub any-cutting : (r : Receiver) (table : List Float) (calls others : List Call) → AllAccepted r table calls → AllAccepted r table others → samplesIn calls ≡ samplesIn others → sessionOf r table calls ≡ sessionOf r table others
 any-cutting r table calls others a b e = session-is r table calls a ∙ ap (bySamples r table) e ∙ sym (session-is r table others b)
 
@@ -96,7 +96,7 @@ abbrev pub AllRoomy : List Call → Type 0
 AllRoomy [] = Unit {0}
 AllRoomy (c ∷ calls) = ((length (c .samples) % 2 ≡ 0) × Roomy (c .samples) (c .dibits) (c .reliabilities)) × AllRoomy calls
 
--- where a block is accepted, so is every cutting of it
+-- A BLOCK IN ANY PARTS: where a block is accepted, so is each of the blocks that it is cut into
 pub cut-accepted : (r : Receiver) (table : List Float) (calls : List Call) (ds rs : List ℕ) → Typed r → blockOf r table (samplesIn calls) ds rs .number ≡ 0 → AllRoomy calls → AllAccepted r table calls
 cut-accepted r table [] ds rs t h k = tt
 cut-accepted r table (c ∷ calls) ds rs t h k =
@@ -105,6 +105,6 @@ cut-accepted r table (c ∷ calls) ds rs t h k =
     let p = accepted-passes r table (samplesIn (c ∷ calls)) ds rs h .room in
     let a = p .dibits in
     let b = p .reliabilities in
-    let i = apart r table (c .samples) (samplesIn calls) ds rs (c .dibits) (c .reliabilities) ds rs t e h (k .0 .1) (record { dibits = omega arith; reliabilities = omega arith }) in
+    let i = block-in-two r table (c .samples) (samplesIn calls) ds rs (c .dibits) (c .reliabilities) ds rs t e h (k .0 .1) (record { dibits = omega arith; reliabilities = omega arith }) in
     let t′ = block-kept r table (c .samples) (c .dibits) (c .reliabilities) t (i .first-accepted) .typed in
     (i .first-accepted, cut-accepted (called r table c .receiver) table calls ds rs t′ (i .second-accepted) (k .1))

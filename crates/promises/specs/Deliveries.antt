@@ -2,7 +2,7 @@
 use mathlib.Core.Path.{_≡_, refl, sym, ap, _∙_}
 use mathlib.Core.Bool.{Bool, true, false}
 use mathlib.Core.List.{List, [], _∷_, _++_, append-assoc, append-nil}
-use Prim.Native.Nat.{ℕ, zero, suc, _+_, _*_, _≤_}
+use Prim.Native.Nat.{ℕ, _+_, _*_, _≤_}
 use native.Mathlib.Omega.{arith}
 use lib.Dec.{eqb}
 use lib.ListN.{length, drop, length-append}
@@ -16,15 +16,14 @@ use Rattle.sequence.specs.declared.walk.Answer.the-variants.{Silent, Dibit}
 use Rattle.chain.specs.declared.step.Outcome.{Outcome as Result}
 use Rattle.chain.specs.declared.step.Outcome.the-variants.{Quiet, Heard}
 use Rattle.chain.specs.Labels.{conjugates}
-use Rattle.chain.specs.Chain.{ChainState, Step}
+use Rattle.chain.specs.Chain.{ChainState}
 use Rattle.chain.specs.Rows.{dibitsOf, pairOf, recordsAfter, Told, start, slotAt, nextOf, told, ranOf, Room, laidIn, chainOf}
+use Rattle.chain.specs.RowLaws.{one-most}
 use Rattle.receiver.specs.declared.state.Receiver.{Receiver}
 use Rattle.receiver.specs.State.{snapshotOf}
 use Rattle.receiver.specs.Samples.{countOf, overloadOf}
 use Rattle.receiver.specs.Run.{frontAt, wholeOf}
-use Rattle.laws.specs.Turns.{turns}
-use Rattle.front.specs.Front as front
-use Rattle.front.specs.Steps.{values-two}
+use Rattle.receiver.specs.Delivered.{values-most}
 use Rattle.receiver.specs.BlockLaws.{ready-block}
 use Rattle.receiver.specs.Block.{Judged, judgedBy, judgedOf, startOf, receiverOf, Outcome, acceptedOf, blockBy, blockOf}
 
@@ -106,10 +105,8 @@ bytes-one Quiet = refl
 bytes-one (Heard soft Silent) = refl
 bytes-one (Heard soft (Dibit d h l)) = refl
 
-one-most : (o : Result) → length (deliveryOf o) ≤ 1
-one-most Quiet = omega arith
-one-most (Heard soft Silent) = omega arith
-one-most (Heard soft (Dibit d h l)) = omega arith
+one-delivered : (o : Result) → length (deliveryOf o) ≤ 1
+one-delivered o = let a = length-dibits (deliveryOf o) in let b = ap length (dibits-one o) in let c = one-most o in omega arith
 
 -- ---- the chain tells its deliveries
 module _ (taps derivatives : List Float) where
@@ -133,7 +130,7 @@ module _ (taps derivatives : List Float) where
   few [] s records = omega arith
   few (z ∷ values) s records =
       let n = nextOf taps derivatives s records z in
-      let a = one-most (n .outcome) in
+      let a = one-delivered (n .outcome) in
       let b = few values (n .state) (recordsAfter (n .outcome) (slotAt s) records) in
       simp length-append (omega arith)
 
@@ -147,14 +144,6 @@ chain-lays values s records room =
     λ i. laidIn room (a i) (b i)
 
 -- ---- the block
-values-most : (conjugated : Bool) (table xs : List Float) (n : ℕ) (h : front.Run) → length (front.frontOf conjugated table xs n h .values) ≤ length (h .values) + 2 * n
-unfolding front.frontOf turns front.more
-values-most conjugated table xs zero h = omega arith
-values-most conjugated table xs (suc n) h =
-    let a = values-most conjugated table xs n h in
-    let b = values-two conjugated table (front.frontOf conjugated table xs n h .rung) (front.sampleAt xs n) in
-    simp length-append (omega arith)
-
 pub total-after : (r : Receiver) (table xs : List Float) → afterOf r table xs .total ≡ r .total + countOf xs
 unfolding afterOf
 total-after r table xs = refl

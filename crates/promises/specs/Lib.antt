@@ -1,6 +1,6 @@
 pub mod Deliveries
 pub mod Written
-pub mod InTurn
+pub mod Append
 pub mod Accepts
 pub mod Compose
 pub mod Cutting

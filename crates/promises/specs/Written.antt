@@ -30,7 +30,8 @@ module _ (r : Receiver) (table xs : List Float) (ds rs : List ℕ) where
       subst (λ (o : Outcome). Written (o .count) ds (o .dibits) × Written (2 * o .count) rs (o .reliabilities)) (sym (accepted-is r table xs ds rs h))
       (written-front (dibitsIn l) ds (length l) (length-dibits l) (k .0), written-front (bytesIn l) rs (2 * length l) (length-bytes l) (k .1))
 
-  refused-is : (blockOf r table xs ds rs .number ≡ 0 → ⊥) → blockOf r table xs ds rs ≡ refusedOf (blockOf r table xs ds rs .number) r ds rs
+  -- a refused block gives its number, the state as given, k 0, overload 0, a Snapshot of zeros and untouched buffers
+  pub refused-is : (blockOf r table xs ds rs .number ≡ 0 → ⊥) → blockOf r table xs ds rs ≡ refusedOf (blockOf r table xs ds rs .number) r ds rs
   unfolding blockOf acceptedOf
   refused-is h = go (judgedOf r xs (length table) (length ds) (length rs)) (eqb (judgedOf r xs (length table) (length ds) (length rs) .number) 0) refl h
     where
@@ -38,7 +39,7 @@ module _ (r : Receiver) (table xs : List Float) (ds rs : List ℕ) where
       go j true e h = absurd (h (rw e))
       go j false e h = rw e
 
-  -- a refused block returns the state as given, and untouched buffers
+  -- so the state and both rooms are what they were
   pub refused-keeps : (blockOf r table xs ds rs .number ≡ 0 → ⊥) → (blockOf r table xs ds rs .receiver ≡ r) × (blockOf r table xs ds rs .dibits ≡ ds) × (blockOf r table xs ds rs .reliabilities ≡ rs)
   refused-keeps h =
       let e = refused-is h in

@@ -2,7 +2,7 @@
 use mathlib.Core.Path.{_≡_, refl, sym, ap, _∙_}
 use mathlib.Core.Bool.{Bool, true, false, cond, _&&_, _||_}
 use mathlib.Core.List.{List, [], _∷_, _++_, append-assoc, append-nil}
-use Prim.Native.Nat.{ℕ, zero, suc, _+_, _*_, _/_, _%_, _≤_, _<_}
+use Prim.Native.Nat.{ℕ, zero, suc, _+_, _*_, _≤_, _<_}
 use native.Mathlib.Omega.{arith}
 use lib.ListN.{length, getD, length-append, List·getD-append}
 use lib.Seq.{getD-append-add}
@@ -28,7 +28,7 @@ use Rattle.receiver.specs.declared.state.Receiver.{Receiver}
 use Rattle.receiver.specs.Samples.{countOf, realOf, imaginaryOf, finiteOf, isAbove, overloadOf}
 use Rattle.receiver.specs.Run.{wholeOf}
 use Rattle.receiver.specs.Block.{startOf, receiverOf}
-use Rattle.promises.specs.Deliveries.{Delivery, deliveryOf, deliveries, valuesOf, deliveriesOf, afterOf}
+use Rattle.promises.specs.Deliveries.{Delivery, deliveryOf, deliveries, deliveriesOf, afterOf}
 
 -- ---- samples
 module _ (xs ys : List Float) (even : length xs ≡ 2 * countOf xs) where
@@ -146,14 +146,14 @@ module _ (taps derivatives : List Float) where
   ran-profile (z ∷ values) t = ran-profile values (told taps derivatives t z) ∙ step-profile (t .state) z _
 
   -- what was told before changes neither state nor records
-  ran-left : (values : List Complex32) (s : ChainState) (records : List Slot) (ds rs es qs : List ℕ)
+  ran-alike : (values : List Complex32) (s : ChainState) (records : List Slot) (ds rs es qs : List ℕ)
       → (ranOf taps derivatives values (record { state = s; records = records; dibits = ds; reliabilities = rs }) .state ≡ ranOf taps derivatives values (record { state = s; records = records; dibits = es; reliabilities = qs }) .state)
       × (ranOf taps derivatives values (record { state = s; records = records; dibits = ds; reliabilities = rs }) .records ≡ ranOf taps derivatives values (record { state = s; records = records; dibits = es; reliabilities = qs }) .records)
   unfolding ranOf told
-  ran-left [] s records ds rs es qs = (refl, refl)
-  ran-left (z ∷ values) s records ds rs es qs =
+  ran-alike [] s records ds rs es qs = (refl, refl)
+  ran-alike (z ∷ values) s records ds rs es qs =
       let n = nextOf taps derivatives s records z in
-      ran-left values (n .state) (recordsAfter (n .outcome) (slotAt s) records) (ds ++ dibitsOf (n .outcome)) (rs ++ pairOf (n .outcome)) (es ++ dibitsOf (n .outcome)) (qs ++ pairOf (n .outcome))
+      ran-alike values (n .state) (recordsAfter (n .outcome) (slotAt s) records) (ds ++ dibitsOf (n .outcome)) (rs ++ pairOf (n .outcome)) (es ++ dibitsOf (n .outcome)) (qs ++ pairOf (n .outcome))
 
   deliveries-append : (xs ys : List Complex32) (t : Told)
       → deliveries taps derivatives (xs ++ ys) (t .state) (t .records) ≡ deliveries taps derivatives xs (t .state) (t .records) ++ deliveries taps derivatives ys (ranOf taps derivatives xs t .state) (ranOf taps derivatives xs t .records)
@@ -210,7 +210,7 @@ module _ (r : Receiver) (table xs ys : List Float) where
         let n : r .total + countOf (xs ++ ys) ≡ r .total + countOf xs + countOf ys = (let e = count-append xs ys even in omega arith) in
         let f = front-append conjugated table xs ys even (startOf r [] [] .rung) in
         let t = ran-append (bothTables .taps) (bothTables .derivatives) (frontFirst .values) (frontSecond .values) started in
-        let l = ran-left (bothTables .taps) (bothTables .derivatives) (frontSecond .values) (toldFirst .state) (toldFirst .records) (toldFirst .dibits) (toldFirst .reliabilities) [] [] in
+        let l = ran-alike (bothTables .taps) (bothTables .derivatives) (frontSecond .values) (toldFirst .state) (toldFirst .records) (toldFirst .dibits) (toldFirst .reliabilities) [] [] in
         (λ i. made (n i) (f i .rung) (ran (f i .values) started .state) (ran (f i .values) started .records))
         ∙ (λ i. made (r .total + countOf xs + countOf ys) (frontSecond .rung) (t i .state) (t i .records))
         ∙ (λ i. made (r .total + countOf xs + countOf ys) (frontSecond .rung) (l .0 i) (l .1 i))
