@@ -14,7 +14,8 @@ use Rattle.chain.specs.RowLaws.{chain-left}
 use Rattle.receiver.specs.Run.{Whole, frontAt, wholeOf}
 
 module _ (conjugated : Bool) (table xs : List Float) where
-  values-most : (n : ℕ) (h : front.Run) → length (front.frontOf conjugated table xs n h .values) ≤ length (h .values) + 2 * n
+  -- n samples make at most 2 n values
+  pub values-most : (n : ℕ) (h : front.Run) → length (front.frontOf conjugated table xs n h .values) ≤ length (h .values) + 2 * n
   unfolding front.frontOf turns front.more
   values-most zero h = omega arith
   values-most (suc n) h =

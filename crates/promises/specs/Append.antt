@@ -1,0 +1,226 @@
+-- Samples and then others are all of them together: for the checks, the front, the chain, and so for what a block delivers and the state that it returns. Assumes nothing.
+use mathlib.Core.Path.{_≡_, refl, sym, ap, _∙_}
+use mathlib.Core.Bool.{Bool, true, false, cond, _&&_, _||_}
+use mathlib.Core.List.{List, [], _∷_, _++_, append-assoc, append-nil}
+use Prim.Native.Nat.{ℕ, zero, suc, _+_, _*_, _≤_, _<_}
+use native.Mathlib.Omega.{arith}
+use lib.ListN.{length, getD, length-append, List·getD-append}
+use lib.Seq.{getD-append-add}
+use lib.Ieee.{Float, nan}
+use Rattle.laws.specs.Turns.{turns}
+use Rattle.numbers.specs.Numbers.{isFinite}
+use Rattle.complex.specs.declared.Complex32.{Complex32}
+use Rattle.taps.specs.Taps.{bothTables}
+use Rattle.sequence.specs.declared.soft.Slot.{Slot}
+use Rattle.sequence.specs.declared.soft.Soft.{Soft}
+use Rattle.filter.specs.Filter.{Windows}
+use Rattle.peak.specs.declared.Level.{Level}
+use Rattle.peak.specs.declared.Level.the-variants.{Filling, At}
+use Rattle.peak.specs.Peak as Peak
+use Rattle.clock.specs.declared.Answer.{Answer}
+use Rattle.clock.specs.declared.Answer.the-variants.{NoSymbol, Symbol}
+use Rattle.front.specs.Front as front
+use Rattle.chain.specs.Labels.{conjugates}
+use Rattle.chain.specs.Chain.{ChainState, withKeeper, withClock, clockRun, symbolOf, heardOf, toldOf, levelOf, steppedOf}
+use Rattle.chain.specs.Rows.{dibitsOf, pairOf, recordsAfter, Told, start, slotAt, nextOf, told, ranOf, chainOf}
+use Rattle.chain.specs.RowLaws.{ran-append}
+use Rattle.receiver.specs.declared.state.Receiver.{Receiver}
+use Rattle.receiver.specs.Samples.{countOf, realOf, imaginaryOf, finiteOf, isAbove, overloadOf}
+use Rattle.receiver.specs.Run.{wholeOf}
+use Rattle.receiver.specs.Block.{startOf, receiverOf}
+use Rattle.promises.specs.Deliveries.{Delivery, deliveryOf, deliveries, deliveriesOf, afterOf}
+
+-- ---- samples
+module _ (xs ys : List Float) (even : length xs ≡ 2 * countOf xs) where
+  pub count-append : countOf (xs ++ ys) ≡ countOf xs + countOf ys
+  count-append = let e = length-append xs ys in omega arith
+
+  sample-first : (k : ℕ) → k < countOf xs → front.sampleAt (xs ++ ys) k ≡ front.sampleAt xs k
+  sample-first k l =
+      let a = List·getD-append xs ys nan (2 * k) (omega arith) in
+      let b = List·getD-append xs ys nan (2 * k + 1) (omega arith) in
+      λ i. record { real = a i; imaginary = b i }
+
+  sample-second : (k : ℕ) → front.sampleAt (xs ++ ys) (countOf xs + k) ≡ front.sampleAt ys k
+  sample-second k =
+      let p : 2 * (countOf xs + k) ≡ length xs + 2 * k = omega arith in
+      let q : 2 * (countOf xs + k) + 1 ≡ length xs + (2 * k + 1) = omega arith in
+      let a = ap (λ (j : ℕ). getD (xs ++ ys) j nan) p ∙ getD-append-add xs ys (2 * k) nan in
+      let b = ap (λ (j : ℕ). getD (xs ++ ys) j nan) q ∙ getD-append-add xs ys (2 * k + 1) nan in
+      λ i. record { real = a i; imaginary = b i }
+
+  -- a loop over the samples
+  module _ {A : Type 0} (f : A → Complex32 → A) (a : A) where
+    abbrev over : List Float → ℕ → A → A
+    over zs n b = turns (λ k c. f c (front.sampleAt zs k)) n b
+
+    over-first : (n : ℕ) → n ≤ countOf xs → over (xs ++ ys) n a ≡ over xs n a
+    unfolding turns
+    over-first zero h = refl
+    over-first (suc n) h = (λ i. f (over-first n (omega arith) i) (sample-first n h i))
+
+    over-both : (n : ℕ) → over (xs ++ ys) (countOf xs + n) a ≡ over ys n (over xs (countOf xs) a)
+    unfolding turns
+    over-both zero = let e : countOf xs + 0 ≡ countOf xs = omega arith in ap (λ (n : ℕ). over (xs ++ ys) n a) e ∙ over-first (countOf xs) (omega arith)
+    over-both (suc n) =
+        let e : countOf xs + suc n ≡ suc (countOf xs + n) = omega arith in
+        ap (λ (n : ℕ). over (xs ++ ys) n a) e ∙ (λ i. f (over-both n i) (sample-second n i))
+
+    over-append : over (xs ++ ys) (countOf (xs ++ ys)) a ≡ over ys (countOf ys) (over xs (countOf xs) a)
+    over-append = ap (λ (n : ℕ). over (xs ++ ys) n a) count-append ∙ over-both (countOf ys)
+
+-- ---- the checks of the samples
+and-from : (g : ℕ → Bool) (n : ℕ) (b : Bool) → turns (λ (k : ℕ) (c : Bool). c && g k) n b ≡ (b && turns (λ (k : ℕ) (c : Bool). c && g k) n true)
+unfolding turns
+and-from g zero true = refl
+and-from g zero false = refl
+and-from g (suc n) true = refl
+and-from g (suc n) false = rw (and-from g n false)
+
+sum-from : (g : ℕ → ℕ) (n a : ℕ) → turns (λ (k s : ℕ). s + g k) n a ≡ a + turns (λ (k s : ℕ). s + g k) n 0
+unfolding turns
+sum-from g zero a = omega arith
+sum-from g (suc n) a = let e = sum-from g n a in omega arith
+
+module _ (xs ys : List Float) (even : length xs ≡ 2 * countOf xs) where
+  pub finite-append : finiteOf (xs ++ ys) ≡ (finiteOf xs && finiteOf ys)
+  unfolding finiteOf
+  finite-append =
+      over-append xs ys even (λ (b : Bool) (z : Complex32). b && (isFinite (z .real) && isFinite (z .imaginary))) true
+      ∙ and-from (λ (k : ℕ). isFinite (realOf ys k) && isFinite (imaginaryOf ys k)) (countOf ys) (finiteOf xs)
+
+  pub overload-append : overloadOf (xs ++ ys) ≡ overloadOf xs + overloadOf ys
+  unfolding overloadOf
+  overload-append =
+      over-append xs ys even (λ (n : ℕ) (z : Complex32). n + cond (isAbove (z .real) || isAbove (z .imaginary)) 1 0) 0
+      ∙ sum-from (λ (k : ℕ). cond (isAbove (realOf ys k) || isAbove (imaginaryOf ys k)) 1 0) (countOf ys) (overloadOf xs)
+
+-- ---- the front
+module _ (conjugated : Bool) (table : List Float) where
+  abbrev frontFrom : List Float → front.Rung → List Complex32 → front.Run
+  frontFrom xs g vs = front.frontOf conjugated table xs (countOf xs) (record { rung = g; values = vs })
+
+  -- values from before stay in front
+  values-before : (xs : List Float) (n : ℕ) (g : front.Rung) (vs : List Complex32)
+      → front.frontOf conjugated table xs n (record { rung = g; values = vs })
+      ≡ record { rung = front.frontOf conjugated table xs n (record { rung = g; values = [] }) .rung; values = vs ++ front.frontOf conjugated table xs n (record { rung = g; values = [] }) .values }
+  unfolding front.frontOf turns front.more
+  values-before xs zero g vs = let e = sym (append-nil vs) in λ i. record { rung = g; values = e i }
+  values-before xs (suc n) g vs =
+      let h = front.frontOf conjugated table xs n (record { rung = g; values = [] }) in
+      let s = front.frontStep conjugated table (h .rung) (front.sampleAt xs n) in
+      ap (λ (t : front.Run). front.more conjugated table t (front.sampleAt xs n)) (values-before xs n g vs)
+      ∙ (λ i. record { rung = s .rung; values = append-assoc vs (h .values) (s .values) i })
+
+  front-append : (xs ys : List Float) → length xs ≡ 2 * countOf xs → (g : front.Rung)
+      → frontFrom (xs ++ ys) g [] ≡ record { rung = frontFrom ys (frontFrom xs g [] .rung) [] .rung; values = frontFrom xs g [] .values ++ frontFrom ys (frontFrom xs g [] .rung) [] .values }
+  unfolding front.frontOf
+  front-append xs ys even g =
+      over-append xs ys even (front.more conjugated table) (record { rung = g; values = [] })
+      ∙ values-before ys (countOf ys) (frontFrom xs g [] .rung) (frontFrom xs g [] .values)
+
+-- ---- the chain
+symbol-profile : (a : Answer) (w : Windows) (s : ChainState) (reliable : Bool) (oldest : Soft) → symbolOf a w s reliable oldest .state .place .profile ≡ s .place .profile
+unfolding symbolOf heardOf toldOf
+symbol-profile NoSymbol w s reliable oldest = refl
+symbol-profile (Symbol arm from) w s reliable oldest = refl
+
+module _ (taps derivatives : List Float) where
+  level-profile : (l : Level) (s : ChainState) (oldest : Soft) → levelOf taps derivatives l s oldest .state .place .profile ≡ s .place .profile
+  unfolding levelOf
+  level-profile Filling s oldest = refl
+  level-profile (At z reliable) s oldest =
+      let r = clockRun taps derivatives s z in
+      symbol-profile (r .stepped .answer) (r .windows) (withClock s r) reliable oldest
+
+  step-profile : (s : ChainState) (z : Complex32) (oldest : Soft) → steppedOf taps derivatives s z oldest .state .place .profile ≡ s .place .profile
+  unfolding steppedOf
+  step-profile s z oldest =
+      let k = Peak.keptOf (s .place .keeper) z (s .keeper) in
+      level-profile (k .kept .level) (withKeeper s (k .kept .place) (k .ring)) oldest
+
+  -- the profile is kept
+  ran-profile : (values : List Complex32) (t : Told) → ranOf taps derivatives values t .state .place .profile ≡ t .state .place .profile
+  unfolding ranOf told
+  ran-profile [] t = refl
+  ran-profile (z ∷ values) t = ran-profile values (told taps derivatives t z) ∙ step-profile (t .state) z _
+
+  -- what was told before changes neither state nor records
+  ran-alike : (values : List Complex32) (s : ChainState) (records : List Slot) (ds rs es qs : List ℕ)
+      → (ranOf taps derivatives values (record { state = s; records = records; dibits = ds; reliabilities = rs }) .state ≡ ranOf taps derivatives values (record { state = s; records = records; dibits = es; reliabilities = qs }) .state)
+      × (ranOf taps derivatives values (record { state = s; records = records; dibits = ds; reliabilities = rs }) .records ≡ ranOf taps derivatives values (record { state = s; records = records; dibits = es; reliabilities = qs }) .records)
+  unfolding ranOf told
+  ran-alike [] s records ds rs es qs = (refl, refl)
+  ran-alike (z ∷ values) s records ds rs es qs =
+      let n = nextOf taps derivatives s records z in
+      ran-alike values (n .state) (recordsAfter (n .outcome) (slotAt s) records) (ds ++ dibitsOf (n .outcome)) (rs ++ pairOf (n .outcome)) (es ++ dibitsOf (n .outcome)) (qs ++ pairOf (n .outcome))
+
+  deliveries-append : (xs ys : List Complex32) (t : Told)
+      → deliveries taps derivatives (xs ++ ys) (t .state) (t .records) ≡ deliveries taps derivatives xs (t .state) (t .records) ++ deliveries taps derivatives ys (ranOf taps derivatives xs t .state) (ranOf taps derivatives xs t .records)
+  unfolding deliveries ranOf told
+  deliveries-append [] ys t = refl
+  deliveries-append (z ∷ xs) ys t =
+      let n = nextOf taps derivatives (t .state) (t .records) z in
+      ap (λ (l : List Delivery). deliveryOf (n .outcome) ++ l) (deliveries-append xs ys (told taps derivatives t z)) ∙ sym (append-assoc (deliveryOf (n .outcome)) _ _)
+
+-- ---- the block
+abbrev made : ℕ → front.Rung → ChainState → List Slot → Receiver
+made total g s records = receiverOf total (record { rung = g; lent = record { state = s; records = records; room = record { dibits = []; reliabilities = []; written = 0 } }; from = 0 })
+
+module _ (r : Receiver) (table xs ys : List Float) where
+  abbrev conjugated : Bool
+  conjugated = conjugates (r .chain .profile)
+
+  abbrev ran : List Complex32 → Told → Told
+  ran = ranOf (bothTables .taps) (bothTables .derivatives)
+
+  -- the front and the chain after the first samples, and after the second
+  abbrev started : Told
+  started = start (startOf r [] [] .lent .state) (r .records .slots)
+
+  abbrev frontFirst : front.Run
+  frontFirst = frontFrom conjugated table xs (startOf r [] [] .rung) []
+
+  abbrev frontSecond : front.Run
+  frontSecond = frontFrom conjugated table ys (frontFirst .rung) []
+
+  abbrev toldFirst : Told
+  toldFirst = ran (frontFirst .values) started
+
+  abbrev toldSecond : Told
+  toldSecond = ran (frontSecond .values) (start (toldFirst .state) (toldFirst .records))
+
+  same-profile : conjugates (afterOf r table xs .chain .profile) ≡ conjugated
+  unfolding afterOf wholeOf chainOf
+  same-profile = ap conjugates (ran-profile (bothTables .taps) (bothTables .derivatives) (frontFirst .values) started)
+
+  after-second : afterOf (afterOf r table xs) table ys ≡ made (r .total + countOf xs + countOf ys) (frontSecond .rung) (toldSecond .state) (toldSecond .records)
+  unfolding afterOf wholeOf chainOf
+  after-second = ap (λ (b : Bool). receiverOf (r .total + countOf xs + countOf ys) (wholeOf b table ys (startOf (afterOf r table xs) [] []))) same-profile
+
+  deliveries-second : deliveriesOf (afterOf r table xs) table ys ≡ deliveries (bothTables .taps) (bothTables .derivatives) (frontSecond .values) (toldFirst .state) (toldFirst .records)
+  unfolding deliveriesOf afterOf wholeOf chainOf
+  deliveries-second = ap (λ (b : Bool). deliveries (bothTables .taps) (bothTables .derivatives) (frontFrom b table ys (frontFirst .rung) [] .values) (toldFirst .state) (toldFirst .records)) same-profile
+
+  module _ (even : length xs ≡ 2 * countOf xs) where
+    -- the state after a block of both is that after one and then the other
+    pub after-append : afterOf r table (xs ++ ys) ≡ afterOf (afterOf r table xs) table ys
+    unfolding afterOf wholeOf chainOf
+    after-append =
+        let n : r .total + countOf (xs ++ ys) ≡ r .total + countOf xs + countOf ys = (let e = count-append xs ys even in omega arith) in
+        let f = front-append conjugated table xs ys even (startOf r [] [] .rung) in
+        let t = ran-append (bothTables .taps) (bothTables .derivatives) (frontFirst .values) (frontSecond .values) started in
+        let l = ran-alike (bothTables .taps) (bothTables .derivatives) (frontSecond .values) (toldFirst .state) (toldFirst .records) (toldFirst .dibits) (toldFirst .reliabilities) [] [] in
+        (λ i. made (n i) (f i .rung) (ran (f i .values) started .state) (ran (f i .values) started .records))
+        ∙ (λ i. made (r .total + countOf xs + countOf ys) (frontSecond .rung) (t i .state) (t i .records))
+        ∙ (λ i. made (r .total + countOf xs + countOf ys) (frontSecond .rung) (l .0 i) (l .1 i))
+        ∙ sym after-second
+
+    -- what a block of both delivers is what one delivers and then the other
+    pub delivered-append : deliveriesOf r table (xs ++ ys) ≡ deliveriesOf r table xs ++ deliveriesOf (afterOf r table xs) table ys
+    unfolding deliveriesOf
+    delivered-append =
+        let f = front-append conjugated table xs ys even (startOf r [] [] .rung) in
+        (λ i. deliveries (bothTables .taps) (bothTables .derivatives) (f i .values) (started .state) (started .records))
+        ∙ deliveries-append (bothTables .taps) (bothTables .derivatives) (frontFirst .values) (frontSecond .values) started
+        ∙ ap (λ (l : List Delivery). deliveriesOf r table xs ++ l) (sym deliveries-second)

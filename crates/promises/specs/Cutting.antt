@@ -1,0 +1,110 @@
+-- Any cutting of samples into accepted blocks gives the same dibits, the same reliabilities and the same state. Assumes nothing.
+use mathlib.Core.Path.{_≡_, sym, ap, _∙_}
+use mathlib.Core.List.{List, [], _∷_, _++_}
+use Prim.Native.Nat.{ℕ, _+_, _*_, _%_}
+use native.Mathlib.Omega.{arith}
+use lib.ListN.{length, length-append}
+use lib.Ieee.{Float}
+use Rattle.laws.specs.Turns.{turns}
+use Rattle.front.specs.Front as front
+use Rattle.chain.specs.Rows.{ranOf, chainOf}
+use Rattle.receiver.specs.declared.state.Receiver.{Receiver}
+use Rattle.receiver.specs.Samples.{countOf, overloadOf}
+use Rattle.receiver.specs.Run.{wholeOf}
+use Rattle.receiver.specs.Block.{startOf, receiverOf, Outcome, blockOf}
+use Rattle.promises.specs.Deliveries.{deliveries, dibitsIn, bytesIn, deliveriesOf, afterOf, outcomeOf, dibits-append, bytes-append, accepted-is}
+use Rattle.promises.specs.Append.{count-append, overload-append, after-append, delivered-append}
+use Rattle.promises.specs.Accepts.{Roomy, Typed, accepted-passes, block-kept}
+use Rattle.promises.specs.Compose.{deliveredDibits, deliveredBytes, dibits-are, bytes-are, block-in-two}
+
+-- a call: its samples, and the rooms lent to it
+pub record Call : Type 0 where
+  pub samples : List Float
+  pub dibits : List ℕ
+  pub reliabilities : List ℕ
+
+abbrev pub called : Receiver → List Float → Call → Outcome
+called r table c = blockOf r table (c .samples) (c .dibits) (c .reliabilities)
+
+-- what calls give together: the last state, k and overload summed, and what was delivered
+pub record Session : Type 0 where
+  pub receiver : Receiver
+  pub count : ℕ
+  pub overload : ℕ
+  pub dibits : List ℕ
+  pub reliabilities : List ℕ
+
+abbrev pub after : Outcome → Session → Session
+after o s = record { receiver = s .receiver; count = o .count + s .count; overload = o .overload + s .overload; dibits = deliveredDibits o ++ s .dibits; reliabilities = deliveredBytes o ++ s .reliabilities }
+
+-- calls one after the other, each from the state that the one before it returned
+abbrev pub sessionOf : Receiver → List Float → List Call → Session
+sessionOf r table [] = record { receiver = r; count = 0; overload = 0; dibits = []; reliabilities = [] }
+sessionOf r table (c ∷ calls) = after (called r table c) (sessionOf (called r table c .receiver) table calls)
+
+-- each of them is accepted
+abbrev pub AllAccepted : Receiver → List Float → List Call → Type 0
+AllAccepted r table [] = Unit {0}
+AllAccepted r table (c ∷ calls) = (called r table c .number ≡ 0) × AllAccepted (called r table c .receiver) table calls
+
+-- all their samples
+abbrev pub samplesIn : List Call → List Float
+samplesIn [] = []
+samplesIn (c ∷ calls) = c .samples ++ samplesIn calls
+
+-- ---- a session by its samples alone
+abbrev bySamples : Receiver → List Float → List Float → Session
+bySamples r table xs = record {
+  receiver = afterOf r table xs;
+  count = length (deliveriesOf r table xs);
+  overload = overloadOf xs;
+  dibits = dibitsIn (deliveriesOf r table xs);
+  reliabilities = bytesIn (deliveriesOf r table xs);
+}
+
+none : (r : Receiver) (table : List Float) → sessionOf r table [] ≡ bySamples r table []
+unfolding afterOf wholeOf chainOf ranOf deliveriesOf deliveries overloadOf front.frontOf turns
+none r table =
+    let e : r .total ≡ r .total + 0 = omega arith in
+    λ i. record { receiver = receiverOf (e i) (startOf r [] []); count = 0; overload = 0; dibits = []; reliabilities = [] }
+
+more : (r : Receiver) (table xs ys : List Float) (ds rs : List ℕ) → length xs ≡ 2 * countOf xs → after (outcomeOf r table xs ds rs) (bySamples (afterOf r table xs) table ys) ≡ bySamples r table (xs ++ ys)
+more r table xs ys ds rs even =
+    let f = deliveriesOf r table xs in
+    let s = deliveriesOf (afterOf r table xs) table ys in
+    let d = sym (delivered-append r table xs ys even) in
+    let receiver = sym (after-append r table xs ys even) in
+    let count = sym (length-append f s) ∙ ap length d in
+    let overload = sym (overload-append xs ys even) in
+    let dibits = ap (λ (l : List ℕ). l ++ dibitsIn s) (dibits-are r table xs ds rs) ∙ sym (dibits-append f s) ∙ ap dibitsIn d in
+    let bytes = ap (λ (l : List ℕ). l ++ bytesIn s) (bytes-are r table xs ds rs) ∙ sym (bytes-append f s) ∙ ap bytesIn d in
+    λ i. record { receiver = receiver i; count = count i; overload = overload i; dibits = dibits i; reliabilities = bytes i }
+
+session-is : (r : Receiver) (table : List Float) (calls : List Call) → AllAccepted r table calls → sessionOf r table calls ≡ bySamples r table (samplesIn calls)
+session-is r table [] h = none r table
+session-is r table (c ∷ calls) h =
+    ap (after (called r table c)) (session-is (called r table c .receiver) table calls (h .1))
+    ∙ ap (λ (o : Outcome). after o (bySamples (o .receiver) table (samplesIn calls))) (accepted-is r table (c .samples) (c .dibits) (c .reliabilities) (h .0))
+    ∙ more r table (c .samples) (samplesIn calls) (c .dibits) (c .reliabilities) (accepted-passes r table (c .samples) (c .dibits) (c .reliabilities) (h .0) .even)
+
+-- ANY CUTTING: accepted calls that take the same samples give the same dibits and reliabilities, the same k and overload in all, and the same state at the end, wherever their blocks begin and end
+pub any-cutting : (r : Receiver) (table : List Float) (calls others : List Call) → AllAccepted r table calls → AllAccepted r table others → samplesIn calls ≡ samplesIn others → sessionOf r table calls ≡ sessionOf r table others
+any-cutting r table calls others a b e = session-is r table calls a ∙ ap (bySamples r table) e ∙ sym (session-is r table others b)
+
+-- calls with an even number of floats each, and rooms that suffice
+abbrev pub AllRoomy : List Call → Type 0
+AllRoomy [] = Unit {0}
+AllRoomy (c ∷ calls) = ((length (c .samples) % 2 ≡ 0) × Roomy (c .samples) (c .dibits) (c .reliabilities)) × AllRoomy calls
+
+-- A BLOCK IN ANY PARTS: where a block is accepted, so is each of the blocks that it is cut into
+pub cut-accepted : (r : Receiver) (table : List Float) (calls : List Call) (ds rs : List ℕ) → Typed r → blockOf r table (samplesIn calls) ds rs .number ≡ 0 → AllRoomy calls → AllAccepted r table calls
+cut-accepted r table [] ds rs t h k = tt
+cut-accepted r table (c ∷ calls) ds rs t h k =
+    let e = k .0 .0 in
+    let n = count-append (c .samples) (samplesIn calls) (omega arith) in
+    let p = accepted-passes r table (samplesIn (c ∷ calls)) ds rs h .room in
+    let a = p .dibits in
+    let b = p .reliabilities in
+    let i = block-in-two r table (c .samples) (samplesIn calls) ds rs (c .dibits) (c .reliabilities) ds rs t e h (k .0 .1) (record { dibits = omega arith; reliabilities = omega arith }) in
+    let t′ = block-kept r table (c .samples) (c .dibits) (c .reliabilities) t (i .first-accepted) .typed in
+    (i .first-accepted, cut-accepted (called r table c .receiver) table calls ds rs t′ (i .second-accepted) (k .1))
