@@ -1,0 +1,1 @@
+// What the receiver promises over many calls. There is no code here: the theorems stand in specs/.
