@@ -1,6 +1,6 @@
 -- Demand 3 for the receiver's own decimator, over all the samples that it takes, block after block. At d above 1 every d-th sample since setup gives the resampler an output, and no other does; the output is
 -- the sum of the latest 3d - 2 mixed and quantised samples, each weighted by the number of ways to write its age as an ordered sum of three numbers from 0 to d - 1, modulo 2 ^ 64 and read as signed, then
--- scaled and narrowed. Where those samples lie within 2 ^ 44 it is exactly that sum. At d = 1 the mixed samples are passed through. Assumes nothing.
+-- scaled and narrowed. Where those samples lie within 2 ^ 44, as they do while mixed parts are at most 2 ^ 29 in size, it is exactly that sum. At d = 1 the mixed samples are passed through. Assumes nothing.
 use mathlib.Core.Path.{_≡_, refl, sym, ap, _∙_}
 use mathlib.Core.Bool.{Bool, true, false, cond}
 use mathlib.Core.List.{List, [], _∷_, _++_, map, foldl, foldl-append}
@@ -53,6 +53,7 @@ use Rattle.receiver.specs.Samples.{countOf}
 use Rattle.receiver.specs.Run.{frontAt, wholeOf}
 use Rattle.receiver.specs.Block.{Judged, judgedOf, startOf, acceptedOf, blockOf}
 use Rattle.promises.specs.Tables.{setup-fresh}
+use Rattle.promises.specs.Small.{Small, small-counts}
 use Rattle.promises.specs.Taken.{Call, answeredOf, takenOf, rungBefore, givenAt, givenOf, mixedRow}
 
 -- ---- rows in turn
@@ -293,6 +294,10 @@ module _ (rate offset : Float) (profile : ℤ) (table : List Float) where
       pub sounds-exactly : (n + 1) % d ≡ 0 → ((a : ℕ) → a < 3 * d - 2 → Within (ago (quantised cs) n a)) → getD (givenOf fresh cs) n Nothing ≡ Value (scaledOf d (sumsAt d (quantised cs) n))
       unfolding outputOf
       sounds-exactly e k = given-at ∙ ap (outputOf d) (decimates-exactly d (omega arith) (sized .decimation-high) (quantised cs) n inside e k)
+
+      -- so where those mixed samples have parts of at most 2 ^ 29 in size
+      pub sounds-small : (n + 1) % d ≡ 0 → ((i : ℕ) → i ≤ n → n < i + (3 * d - 2) → Small (getD (mixed cs) i zeroPair)) → getD (givenOf fresh cs) n Nothing ≡ Value (scaledOf d (sumsAt d (quantised cs) n))
+      sounds-small e k = sounds-exactly e (λ a m. small-counts (conjugates profile) (freshOscillator rate offset) (takenOf fresh cs) n a (λ h. k (n - a) (omega arith) (omega arith)))
 
     -- what was taken more than 3d - 2 samples ago leaves nothing behind
     pub forgets-within : (cs es : List Call) (n : ℕ) → n < length (takenOf fresh cs) → n < length (takenOf fresh es)

@@ -1,3 +1,4 @@
 pub mod Taken
 pub mod Tables
+pub mod Small
 pub mod Decimates
