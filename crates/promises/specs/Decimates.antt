@@ -10,9 +10,11 @@ use native.Mathlib.Omega.{arith}
 use lib.Dec.{eqb}
 use lib.IntN.{ℤ}
 use lib.ListN.{length, getD, length-map, List·getD-map}
-use lib.Ieee.{Float}
+use lib.Ieee.{Float, binary64, ofBits, ofInt, toUnsigned, add, mul, div, lt, le}
+use borrow.Author.Tests.{le-ltb}
 use Rattle.laws.specs.Turns.{turns}
 use Rattle.laws.specs.Places.{upto}
+use Rattle.numbers.specs.Numbers.{wholeOf, absOf, isFinite}
 use Rattle.complex.specs.declared.Complex32.{Complex32}
 use Rattle.complex.specs.Complex.{zeroPair}
 use Rattle.oscillator.specs.declared.Oscillator.{Oscillator}
@@ -27,7 +29,7 @@ use Rattle.decimator.specs.Demand.{ago, sumsAt}
 use Rattle.decimator.specs.Part.{Words}
 use Rattle.decimator.specs.Theorem.{decimates-at, wrappedSums, demanded-sum, demanded-silent, Within, decimates-exactly, recovers}
 use Rattle.decimator.specs.Values.{Ready, fresh-ready, outputs-above, outputs-through, outputs-forget}
-use Rattle.resampler.specs.Dimensions.{sizedOf}
+use Rattle.resampler.specs.Dimensions.{decimationOf, decimatedOf, armOf, sizedOf}
 use Rattle.resampler.specs.Front.{hearing, heard}
 use Rattle.resampler.specs.Ranges.{Sized, sized-in}
 use Rattle.front.specs.Front as front
@@ -45,12 +47,12 @@ use Rattle.chain.specs.Labels.{conjugates}
 use Rattle.chain.specs.Chain as chain
 use Rattle.chain.specs.Rows as rows
 use Rattle.receiver.specs.declared.state.Receiver.{Receiver}
-use Rattle.receiver.specs.State.{freshReceiver}
-use Rattle.receiver.specs.Setup.{setupOf}
+use Rattle.receiver.specs.State.{zero64, freshReceiver}
+use Rattle.receiver.specs.Setup.{rateRefused, offsetRefused, setupOf}
 use Rattle.receiver.specs.Admitted.{admittedOf}
 use Rattle.receiver.specs.Fits.{fits-from}
 use Rattle.receiver.specs.Samples.{countOf}
-use Rattle.receiver.specs.Run.{frontAt, wholeOf}
+use Rattle.receiver.specs.Run.{frontAt, wholeOf as wholeRun}
 use Rattle.receiver.specs.Block.{Judged, judgedOf, startOf, acceptedOf, blockOf}
 use Rattle.promises.specs.Tables.{setup-fresh}
 use Rattle.promises.specs.Small.{Small, small-counts}
@@ -165,7 +167,7 @@ pub record Refused (r : Receiver) (c : Call) : Type 0 where
   pub receiver : answeredOf r c .receiver ≡ r
 
 pub answered : (r : Receiver) (c : Call) → Accepted r c ⊎ Refused r c
-unfolding blockOf acceptedOf wholeOf
+unfolding blockOf acceptedOf wholeRun
 answered r c = go (eqb (judged .number) 0) refl
   where
     judged : Judged
@@ -311,6 +313,26 @@ module _ (rate offset : Float) (profile : ℤ) (table : List Float) where
         ∙ outputs-forget d (omega arith) zeroPair (mixed cs) (mixed es) n (omega arith) (omega arith)
         (λ i h k. mixed-same (conjugates profile) (freshOscillator rate offset) zeroPair (takenOf fresh cs) (takenOf fresh es) i (omega arith) (omega arith) (same i h k))
         ∙ ap (λ (os : List Output). getD os n Nothing) (sym (given-fresh es))
+
+-- such setups there are: 384,000 samples a second (P9), d = 2, in the middle of the band, with room for 9,216 taps
+abbrev p9 : Float
+p9 = ofBits binary64 0x4117_7000_0000_0000
+
+p9-rate : rateRefused p9 ≡ false
+unfolding rateRefused isFinite ofBits lt
+p9-rate = refl
+
+p9-offset : offsetRefused p9 zero64 ≡ false
+unfolding offsetRefused isFinite absOf ofBits le div add
+p9-offset = refl
+
+p9-sizes : (sizedOf p9 .decimation ≡ 2) × (sizedOf p9 .arm ≡ 288)
+unfolding sizedOf decimationOf decimatedOf armOf wholeOf mul div ofInt ofBits toUnsigned
+p9-sizes = (refl, refl)
+
+pub p9-decimates : (profile : ℤ) (table : List Float) → 9216 ≤ length table → (setupOf p9 zero64 profile table .number ≡ 0) × (sizedOf p9 .decimation ≡ 2)
+unfolding setupOf
+p9-decimates profile table h = (rw (p9-rate, p9-offset, p9-sizes .1, le-ltb (length table) 9216 h), p9-sizes .0)
 
 -- ---- a state that was handed in: from the fourth output on its samples alone decide, whatever its integrators and combs held
 pub recovers-within : (r : Receiver) → admittedOf r ≡ true → 1 < r .front .decimator .decimation → Words (r .front .decimator .integrators .real) → Words (r .front .decimator .integrators .imaginary)
