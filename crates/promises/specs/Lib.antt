@@ -4,3 +4,7 @@ pub mod Append
 pub mod Accepts
 pub mod Compose
 pub mod Cutting
+pub mod Tables
+pub mod Taken
+pub mod Small
+pub mod Decimates

@@ -1,2 +1,2 @@
-// What the calls promise, as theorems over the receiver's definitions. There is no code here: the
-// theorems stand in specs/.
+// What the calls promise, one by one and one after the other, as theorems over the receiver's
+// definitions. There is no code here: the theorems stand in specs/.

@@ -1,0 +1,49 @@
+-- What a receiver takes in calls one after the other, and what its decimator gives the resampler for each sample. Definitions only.
+use mathlib.Core.Bool.{Bool, cond}
+use mathlib.Core.List.{List, [], _∷_, _++_}
+use Prim.Native.Nat.{ℕ}
+use lib.Dec.{eqb}
+use lib.Ieee.{Float}
+use Rattle.laws.specs.Places.{upto}
+use Rattle.complex.specs.declared.Complex32.{Complex32}
+use Rattle.oscillator.specs.declared.Oscillator.{Oscillator}
+use Rattle.oscillator.specs.Oscillator.{turnedOf, mixedOf}
+use Rattle.decimator.specs.declared.Output.{Output}
+use Rattle.front.specs.Front as front
+use Rattle.chain.specs.Labels.{conjugates}
+use Rattle.receiver.specs.declared.state.Receiver.{Receiver}
+use Rattle.receiver.specs.Samples.{countOf}
+use Rattle.receiver.specs.Run.{frontAt}
+use Rattle.receiver.specs.Block.{Outcome, startOf, blockOf}
+
+-- what a block is called with
+pub record Call : Type 0 where
+  pub table : List Float
+  pub samples : List Float
+  pub dibits : List ℕ
+  pub reliabilities : List ℕ
+
+abbrev pub answeredOf : Receiver → Call → Outcome
+answeredOf r c = blockOf r (c .table) (c .samples) (c .dibits) (c .reliabilities)
+
+-- the samples that a receiver takes in calls one after the other: those of the accepted ones
+unfoldable pub takenOf : Receiver → List Call → List Complex32
+takenOf r [] = []
+takenOf r (c ∷ cs) = cond (eqb (answeredOf r c .number) 0) (front.samplesOf (c .samples)) [] ++ takenOf (answeredOf r c .receiver) cs
+
+-- the front before sample k of a call, and what its decimator gives the resampler for that sample
+abbrev pub rungBefore : Receiver → Call → ℕ → front.Rung
+rungBefore r c k = frontAt (conjugates (r .chain .profile)) (c .table) (c .samples) (startOf r (c .dibits) (c .reliabilities)) k .rung
+
+abbrev pub givenAt : Receiver → Call → ℕ → Output
+givenAt r c k = front.stepOf (conjugates (r .chain .profile)) (rungBefore r c k .place .oscillator) (rungBefore r c k .place .decimator) (front.sampleAt (c .samples) k) .output
+
+-- what it gives for each sample taken
+unfoldable pub givenOf : Receiver → List Call → List Output
+givenOf r [] = []
+givenOf r (c ∷ cs) = cond (eqb (answeredOf r c .number) 0) (upto (givenAt r c) (countOf (c .samples))) [] ++ givenOf (answeredOf r c .receiver) cs
+
+-- samples times the oscillator, which turns after each
+unfoldable pub mixedRow : Bool → Oscillator → List Complex32 → List Complex32
+mixedRow conjugated o [] = []
+mixedRow conjugated o (x ∷ xs) = mixedOf o x conjugated ∷ mixedRow conjugated (turnedOf o) xs
