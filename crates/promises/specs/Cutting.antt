@@ -17,16 +17,16 @@ use Rattle.promises.specs.Append.{count-append, overload-append, after-a
 use Rattle.promises.specs.Accepts.{Roomy, Typed, accepted-passes, block-kept}
 use Rattle.promises.specs.Compose.{deliveredDibits, deliveredBytes, dibits-are, bytes-are, block-in-two}
 
--- a call: its samples, and the rooms lent to it
-pub record Call : Type 0 where
+-- a part of the samples, and the rooms lent to its call
+pub record Part : Type 0 where
   pub samples : List Float
   pub dibits : List ℕ
   pub reliabilities : List ℕ
 
-abbrev pub called : Receiver → List Float → Call → Outcome
+abbrev pub called : Receiver → List Float → Part → Outcome
 called r table c = blockOf r table (c .samples) (c .dibits) (c .reliabilities)
 
--- what calls give together: the last state, k and overload summed, and what was delivered
+-- what parts give together: the last state, k and overload summed, and what was delivered
 pub record Session : Type 0 where
   pub receiver : Receiver
   pub count : ℕ
@@ -37,20 +37,20 @@ pub record Session : Type 0 where
 abbrev pub after : Outcome → Session → Session
 after o s = record { receiver = s .receiver; count = o .count + s .count; overload = o .overload + s .overload; dibits = deliveredDibits o ++ s .dibits; reliabilities = deliveredBytes o ++ s .reliabilities }
 
--- calls one after the other, each from the state that the one before it returned
-abbrev pub sessionOf : Receiver → List Float → List Call → Session
+-- parts one after the other, each from the state that the one before it returned
+abbrev pub sessionOf : Receiver → List Float → List Part → Session
 sessionOf r table [] = record { receiver = r; count = 0; overload = 0; dibits = []; reliabilities = [] }
-sessionOf r table (c ∷ calls) = after (called r table c) (sessionOf (called r table c .receiver) table calls)
+sessionOf r table (c ∷ parts) = after (called r table c) (sessionOf (called r table c .receiver) table parts)
 
 -- each of them is accepted
-abbrev pub AllAccepted : Receiver → List Float → List Call → Type 0
+abbrev pub AllAccepted : Receiver → List Float → List Part → Type 0
 AllAccepted r table [] = Unit {0}
-AllAccepted r table (c ∷ calls) = (called r table c .number ≡ 0) × AllAccepted (called r table c .receiver) table calls
+AllAccepted r table (c ∷ parts) = (called r table c .number ≡ 0) × AllAccepted (called r table c .receiver) table parts
 
 -- all their samples
-abbrev pub samplesIn : List Call → List Float
+abbrev pub samplesIn : List Part → List Float
 samplesIn [] = []
-samplesIn (c ∷ calls) = c .samples ++ samplesIn calls
+samplesIn (c ∷ parts) = c .samples ++ samplesIn parts
 
 -- ---- a session by its samples alone
 abbrev bySamples : Receiver → List Float → List Float → Session
@@ -80,31 +80,31 @@ more r table xs ys ds rs even =
     let bytes = ap (λ (l : List ℕ). l ++ bytesIn s) (bytes-are r table xs ds rs) ∙ sym (bytes-append f s) ∙ ap bytesIn d in
     λ i. record { receiver = receiver i; count = count i; overload = overload i; dibits = dibits i; reliabilities = bytes i }
 
-session-is : (r : Receiver) (table : List Float) (calls : List Call) → AllAccepted r table calls → sessionOf r table calls ≡ bySamples r table (samplesIn calls)
+session-is : (r : Receiver) (table : List Float) (parts : List Part) → AllAccepted r table parts → sessionOf r table parts ≡ bySamples r table (samplesIn parts)
 session-is r table [] h = none r table
-session-is r table (c ∷ calls) h =
-    ap (after (called r table c)) (session-is (called r table c .receiver) table calls (h .1))
-    ∙ ap (λ (o : Outcome). after o (bySamples (o .receiver) table (samplesIn calls))) (accepted-is r table (c .samples) (c .dibits) (c .reliabilities) (h .0))
-    ∙ more r table (c .samples) (samplesIn calls) (c .dibits) (c .reliabilities) (accepted-passes r table (c .samples) (c .dibits) (c .reliabilities) (h .0) .even)
+session-is r table (c ∷ parts) h =
+    ap (after (called r table c)) (session-is (called r table c .receiver) table parts (h .1))
+    ∙ ap (λ (o : Outcome). after o (bySamples (o .receiver) table (samplesIn parts))) (accepted-is r table (c .samples) (c .dibits) (c .reliabilities) (h .0))
+    ∙ more r table (c .samples) (samplesIn parts) (c .dibits) (c .reliabilities) (accepted-passes r table (c .samples) (c .dibits) (c .reliabilities) (h .0) .even)
 
--- ANY CUTTING: accepted calls that take the same samples give the same dibits and reliabilities, the same k and overload in all, and the same state at the end, wherever their blocks begin and end
-pub any-cutting : (r : Receiver) (table : List Float) (calls others : List Call) → AllAccepted r table calls → AllAccepted r table others → samplesIn calls ≡ samplesIn others → sessionOf r table calls ≡ sessionOf r table others
-any-cutting r table calls others a b e = session-is r table calls a ∙ ap (bySamples r table) e ∙ sym (session-is r table others b)
+-- ANY CUTTING: accepted parts that take the same samples give the same dibits and reliabilities, the same k and overload in all, and the same state at the end, wherever their blocks begin and end
+pub any-cutting : (r : Receiver) (table : List Float) (parts others : List Part) → AllAccepted r table parts → AllAccepted r table others → samplesIn parts ≡ samplesIn others → sessionOf r table parts ≡ sessionOf r table others
+any-cutting r table parts others a b e = session-is r table parts a ∙ ap (bySamples r table) e ∙ sym (session-is r table others b)
 
--- calls with an even number of floats each, and rooms that suffice
-abbrev pub AllRoomy : List Call → Type 0
+-- parts with an even number of floats each, and rooms that suffice
+abbrev pub AllRoomy : List Part → Type 0
 AllRoomy [] = Unit {0}
-AllRoomy (c ∷ calls) = ((length (c .samples) % 2 ≡ 0) × Roomy (c .samples) (c .dibits) (c .reliabilities)) × AllRoomy calls
+AllRoomy (c ∷ parts) = ((length (c .samples) % 2 ≡ 0) × Roomy (c .samples) (c .dibits) (c .reliabilities)) × AllRoomy parts
 
 -- A BLOCK IN ANY PARTS: where a block is accepted, so is each of the blocks that it is cut into
-pub cut-accepted : (r : Receiver) (table : List Float) (calls : List Call) (ds rs : List ℕ) → Typed r → blockOf r table (samplesIn calls) ds rs .number ≡ 0 → AllRoomy calls → AllAccepted r table calls
+pub cut-accepted : (r : Receiver) (table : List Float) (parts : List Part) (ds rs : List ℕ) → Typed r → blockOf r table (samplesIn parts) ds rs .number ≡ 0 → AllRoomy parts → AllAccepted r table parts
 cut-accepted r table [] ds rs t h k = tt
-cut-accepted r table (c ∷ calls) ds rs t h k =
+cut-accepted r table (c ∷ parts) ds rs t h k =
     let e = k .0 .0 in
-    let n = count-append (c .samples) (samplesIn calls) (omega arith) in
-    let p = accepted-passes r table (samplesIn (c ∷ calls)) ds rs h .room in
+    let n = count-append (c .samples) (samplesIn parts) (omega arith) in
+    let p = accepted-passes r table (samplesIn (c ∷ parts)) ds rs h .room in
     let a = p .dibits in
     let b = p .reliabilities in
-    let i = block-in-two r table (c .samples) (samplesIn calls) ds rs (c .dibits) (c .reliabilities) ds rs t e h (k .0 .1) (record { dibits = omega arith; reliabilities = omega arith }) in
+    let i = block-in-two r table (c .samples) (samplesIn parts) ds rs (c .dibits) (c .reliabilities) ds rs t e h (k .0 .1) (record { dibits = omega arith; reliabilities = omega arith }) in
     let t′ = block-kept r table (c .samples) (c .dibits) (c .reliabilities) t (i .first-accepted) .typed in
-    (i .first-accepted, cut-accepted (called r table c .receiver) table calls ds rs t′ (i .second-accepted) (k .1))
+    (i .first-accepted, cut-accepted (called r table c .receiver) table parts ds rs t′ (i .second-accepted) (k .1))
