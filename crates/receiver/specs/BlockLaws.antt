@@ -20,11 +20,11 @@ use Rattle.receiver.specs.declared.block.Checked.{Checked}
 use Rattle.receiver.specs.declared.block.Block.{Block}
 use Rattle.receiver.specs.Refusal.{numberOf}
 use Rattle.receiver.specs.State.{snapshotOf}
-use Rattle.receiver.specs.Samples.{countOf, realOf, imaginaryOf, finiteOf}
-use Rattle.receiver.specs.Loud.{finite-parts}
+use Rattle.samples.specs.Samples.{countOf, realOf, imaginaryOf, finiteOf}
+use Rattle.samples.specs.Loud.{finite-parts}
 use Rattle.receiver.specs.Admitted.{admittedOf}
 use Rattle.receiver.specs.Fits.{Fits, fits-from, fits-to}
-use Rattle.receiver.specs.Run.{Whole, wholeOf, Going, ReadyRun}
+use Rattle.samples.specs.Run.{Whole, wholeOf, Going, ReadyRun}
 use Rattle.receiver.specs.Block.{countRefused, roomRefused, Judged, judgedNow, judgedOf, startOf, receiverOf, outcomeNow, endedOf, acceptedOf, refusedBlock, blockOf}
 use Rattle.receiver.specs.BlockWays.{counted}
 

@@ -11,14 +11,14 @@ use crate::admitted::LIMIT;
 use crate::admitted::is_admitted;
 use crate::refusal::Verdict;
 use crate::refusal::is_accepted;
-use crate::run::Running;
-use crate::run::run;
-use crate::samples::heard;
 use crate::state::Receiver;
 use crate::state::Snapshot;
 use crate::state::snapshot_of;
 use crate::state::zero_snapshot;
 use chain::label::is_conjugated;
+use samples::level::heard;
+use samples::run::Running;
+use samples::run::run;
 
 // How many dibits were written, and how many samples have a part above 1 in size.
 pub struct Block {
