@@ -24,10 +24,10 @@ use Rattle.receiver.specs.declared.state.Receiver.{Receiver}
 use Rattle.receiver.specs.Refusal.{firstOf}
 use Rattle.receiver.specs.State.{zero32, freshFront, freshReceiver}
 use Rattle.receiver.specs.Setup.{setupChecks, setupBy, setupOf}
-use Rattle.receiver.specs.Samples.{countOf, finiteOf}
+use Rattle.samples.specs.Samples.{countOf, finiteOf}
 use Rattle.receiver.specs.Admitted.{admittedOf}
 use Rattle.receiver.specs.Fits.{fits-from}
-use Rattle.receiver.specs.Run.{frontAt, wholeOf, Going, ReadyRun}
+use Rattle.samples.specs.Run.{frontAt, wholeOf, Going, ReadyRun}
 use Rattle.receiver.specs.Block.{countRefused, roomRefused, judgedOf, startOf, blockOf}
 use Rattle.receiver.specs.BlockWays.{counted}
 use Rattle.receiver.specs.BlockLaws.{ReadyBlock, ready-block, numbers-of, run-asks, run-admitted}

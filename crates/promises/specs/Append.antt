@@ -25,8 +25,8 @@ use Rattle.chain.specs.Chain.{ChainState, withKeeper, withClock, clockRun, symb
 use Rattle.chain.specs.Rows.{dibitsOf, pairOf, recordsAfter, Told, start, slotAt, nextOf, told, ranOf, chainOf}
 use Rattle.chain.specs.RowLaws.{ran-append}
 use Rattle.receiver.specs.declared.state.Receiver.{Receiver}
-use Rattle.receiver.specs.Samples.{countOf, realOf, imaginaryOf, finiteOf, isAbove, overloadOf}
-use Rattle.receiver.specs.Run.{wholeOf}
+use Rattle.samples.specs.Samples.{countOf, realOf, imaginaryOf, finiteOf, isAbove, overloadOf}
+use Rattle.samples.specs.Run.{wholeOf}
 use Rattle.receiver.specs.Block.{startOf, receiverOf}
 use Rattle.promises.specs.Deliveries.{Delivery, deliveryOf, deliveries, deliveriesOf, afterOf}
 

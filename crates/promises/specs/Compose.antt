@@ -9,8 +9,8 @@ use lib.Seq.{take-at}
 use lib.Ieee.{Float}
 use Rattle.receiver.specs.declared.state.Receiver.{Receiver}
 use Rattle.receiver.specs.State.{snapshotOf}
-use Rattle.receiver.specs.Samples.{countOf, finiteOf}
-use Rattle.receiver.specs.Loud.{and-true}
+use Rattle.samples.specs.Samples.{countOf, finiteOf}
+use Rattle.samples.specs.Loud.{and-true}
 use Rattle.receiver.specs.Block.{Outcome, blockOf}
 use Rattle.promises.specs.Deliveries.{dibitsIn, bytesIn, deliveriesOf, afterOf, outcomeOf, length-dibits, length-bytes, dibits-append, bytes-append, total-after, accepted-is}
 use Rattle.promises.specs.Append.{count-append, finite-append, overload-append, after-append, delivered-append}

@@ -9,8 +9,8 @@ use Rattle.laws.specs.Turns.{turns}
 use Rattle.front.specs.Front as front
 use Rattle.chain.specs.Rows.{ranOf, chainOf}
 use Rattle.receiver.specs.declared.state.Receiver.{Receiver}
-use Rattle.receiver.specs.Samples.{countOf, overloadOf}
-use Rattle.receiver.specs.Run.{wholeOf}
+use Rattle.samples.specs.Samples.{countOf, overloadOf}
+use Rattle.samples.specs.Run.{wholeOf}
 use Rattle.receiver.specs.Block.{startOf, receiverOf, Outcome, blockOf}
 use Rattle.promises.specs.Deliveries.{deliveries, dibitsIn, bytesIn, deliveriesOf, afterOf, outcomeOf, dibits-append, bytes-append, accepted-is}
 use Rattle.promises.specs.Append.{count-append, overload-append, after-append, delivered-append}

@@ -51,8 +51,8 @@ use Rattle.receiver.specs.State.{zero64, freshReceiver}
 use Rattle.receiver.specs.Setup.{rateRefused, offsetRefused, setupOf}
 use Rattle.receiver.specs.Admitted.{admittedOf}
 use Rattle.receiver.specs.Fits.{fits-from}
-use Rattle.receiver.specs.Samples.{countOf}
-use Rattle.receiver.specs.Run.{frontAt, wholeOf as wholeRun}
+use Rattle.samples.specs.Samples.{countOf}
+use Rattle.samples.specs.Run.{frontAt, wholeOf as wholeRun}
 use Rattle.receiver.specs.Block.{Judged, judgedOf, startOf, acceptedOf, blockOf}
 use Rattle.promises.specs.Tables.{setup-fresh}
 use Rattle.promises.specs.Small.{Small, small-counts}

@@ -21,9 +21,9 @@ use Rattle.chain.specs.Rows.{dibitsOf, pairOf, recordsAfter, Told, start, slotA
 use Rattle.chain.specs.RowLaws.{one-most}
 use Rattle.receiver.specs.declared.state.Receiver.{Receiver}
 use Rattle.receiver.specs.State.{snapshotOf}
-use Rattle.receiver.specs.Samples.{countOf, overloadOf}
-use Rattle.receiver.specs.Run.{frontAt, wholeOf}
-use Rattle.receiver.specs.Delivered.{values-most}
+use Rattle.samples.specs.Samples.{countOf, overloadOf}
+use Rattle.samples.specs.Run.{frontAt, wholeOf}
+use Rattle.samples.specs.Delivered.{values-most}
 use Rattle.receiver.specs.BlockLaws.{ready-block}
 use Rattle.receiver.specs.Block.{Judged, judgedBy, judgedOf, startOf, receiverOf, Outcome, acceptedOf, blockBy, blockOf}
 

@@ -12,8 +12,8 @@ use Rattle.decimator.specs.declared.Output.{Output}
 use Rattle.front.specs.Front as front
 use Rattle.chain.specs.Labels.{conjugates}
 use Rattle.receiver.specs.declared.state.Receiver.{Receiver}
-use Rattle.receiver.specs.Samples.{countOf}
-use Rattle.receiver.specs.Run.{frontAt}
+use Rattle.samples.specs.Samples.{countOf}
+use Rattle.samples.specs.Run.{frontAt}
 use Rattle.receiver.specs.Block.{Outcome, startOf, blockOf}
 
 -- what a block is called with

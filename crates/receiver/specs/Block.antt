@@ -13,9 +13,9 @@ use Rattle.receiver.specs.declared.state.Snapshot.{Snapshot}
 use Rattle.receiver.specs.declared.block.Checked.{Checked}
 use Rattle.receiver.specs.declared.block.Block.{Block}
 use Rattle.receiver.specs.State.{zeroSnapshot, snapshotOf}
-use Rattle.receiver.specs.Run.{Whole, wholeOf}
+use Rattle.samples.specs.Run.{Whole, wholeOf}
 use Rattle.receiver.specs.Refusal.{numberOf, Check, firstOf}
-use Rattle.receiver.specs.Samples.{countOf, finiteOf, overloadOf}
+use Rattle.samples.specs.Samples.{countOf, finiteOf, overloadOf}
 use Rattle.receiver.specs.Admitted.{admittedOf}
 
 -- ---- the checks, in their order

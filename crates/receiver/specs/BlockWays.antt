@@ -12,9 +12,9 @@ use borrow.Author.Tests.{lt-ltb, le-ltb, ltb-false, eqb-false}
 use Rattle.laws.specs.Ring.{lt-or-ge}
 use Rattle.receiver.specs.declared.refusal.Verdict.the-variants.{Accepted, Table, Count, Sample, Room, State}
 use Rattle.receiver.specs.declared.state.Receiver.{Receiver}
-use Rattle.receiver.specs.declared.samples.Level.{Level}
+use Rattle.samples.specs.declared.level.Level.{Level}
 use Rattle.receiver.specs.declared.block.Checked.{Checked}
-use Rattle.receiver.specs.Samples.{countOf, finiteOf, levelOf}
+use Rattle.samples.specs.Samples.{countOf, finiteOf, levelOf}
 use Rattle.receiver.specs.Admitted.{admittedOf}
 use Rattle.receiver.specs.Fits.{fits-from}
 use Rattle.receiver.specs.Block.{countRefused, roomRefused, refusedBy, judgedNow, laterOf, judgedOf}

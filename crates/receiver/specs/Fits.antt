@@ -18,7 +18,7 @@ use Rattle.chain.specs.declared.ChainPlace.{ChainPlace}
 use Rattle.front.specs.declared.FrontPlace.{FrontPlace}
 use Rattle.receiver.specs.Admitted.{totalsFit, frontFits, symbolFits, detectorFits, chainFits, parentsFit, stateFits}
 use Rattle.receiver.specs.AdmittedTests.{frontRanges, detectorRanges, chainRanges}
-use Rattle.receiver.specs.Loud.{and-true, all-true, true-all}
+use Rattle.samples.specs.Loud.{and-true, all-true, true-all}
 
 pub record FrontFits (p : FrontPlace) : Type 0 where
   pub some : 1 ≤ p .decimator .decimation

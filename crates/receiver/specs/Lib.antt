@@ -1,7 +1,5 @@
 pub mod Refusal
 pub mod State
-pub mod Samples
-pub mod Loud
 pub mod Admitted
 pub mod Largest
 pub mod AdmittedTests
@@ -11,8 +9,5 @@ pub mod Reading
 pub mod Ways
 pub mod Block
 pub mod BlockWays
-pub mod Run
-pub mod RunLaws
 pub mod BlockLaws
 pub mod Laws
-pub mod Delivered

@@ -5,7 +5,5 @@ pub mod admitted;
 pub mod block;
 pub mod reading;
 pub mod refusal;
-mod run;
-mod samples;
 pub mod setup;
 pub mod state;

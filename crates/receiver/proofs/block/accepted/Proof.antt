@@ -1,7 +1,7 @@
 use mir.Syntax.{w32}
 use mir.Val.{SFits}
 use mir.Facts.{toZ-ofZ}
-use Rattle.receiver.specs.Run.{wholeNow}
+use Rattle.samples.specs.Run.{wholeNow}
 use Rattle.receiver.specs.BlockLaws.{run-asks, accepted-is}
 use borrow.Author.Needs.{needs}
 use Rattle.receiver.proofs.block.accepted.Statement.{statement}

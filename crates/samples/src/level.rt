@@ -2,8 +2,8 @@
 ghost use mathlib.Core.Path.{_≡_};
 ghost use Prim.Native.Nat.{_+_, _<_, _≤_};
 ghost use lib.ListN.{length};
-ghost use Rattle.receiver.specs.Samples.{stillFinite, finiteOf, levelOf};
-ghost use Rattle.receiver.specs.Loud.{quietOf, louderOf, loudSamples};
+ghost use Rattle.samples.specs.Samples.{stillFinite, finiteOf, levelOf};
+ghost use Rattle.samples.specs.Loud.{quietOf, louderOf, loudSamples};
 use numbers::compare::is_finite32;
 
 // Overload: the number of samples with a part above 1 in size, where all parts are finite.

@@ -2,10 +2,10 @@ use Prim.Native.Nat.{_-_, _≤_}
 use mathlib.Core.Path.{_≡_, _∙_}
 use mathlib.Core.Bool.{true}
 use Rattle.laws.specs.Turns.{turns, turns-start, turns-step, turns-end}
-use Rattle.receiver.specs.Samples.{finiteTurn, finiteOf}
+use Rattle.samples.specs.Samples.{finiteTurn, finiteOf}
 use borrow.Author.Needs.{needs}
-use Rattle.receiver.proofs.samples.all_finite.Statement.{statement}
-use Rattle.receiver.proofs.samples.all_finite.Tie as tie
+use Rattle.samples.proofs.level.all_finite.Statement.{statement}
+use Rattle.samples.proofs.level.all_finite.Tie as tie
 
 abbrev Inv-loop : tie.InvT-loop
 Inv-loop samples n ok₀ i₀ ok i = (i ≤ n) × (ok ≡ turns (finiteTurn samples) i true)

@@ -11,8 +11,8 @@ use borrow.Author.Tests.{lt-ltb, le-ltb, eq-eqb, ne-eqb}
 use Rattle.laws.specs.Turns.{turns}
 use Rattle.laws.specs.Ring.{lt-or-ge}
 use Rattle.numbers.specs.Numbers.{absOf, isFinite}
-use Rattle.receiver.specs.declared.samples.Level.{Level}
-use Rattle.receiver.specs.Samples.{countOf, realOf, imaginaryOf, finiteOf, one, isAbove, overloadOf, levelOf}
+use Rattle.samples.specs.declared.level.Level.{Level}
+use Rattle.samples.specs.Samples.{countOf, realOf, imaginaryOf, finiteOf, one, isAbove, overloadOf, levelOf}
 
 unfoldable pub quietOf : Float → Bool
 quietOf x = le (ofBits binary32 0xbf800000) x && le x one

@@ -6,7 +6,7 @@ use lib.ListN.{length, getD}
 use lib.Ieee.{Float, nan, binary32, ofBits, lt}
 use Rattle.laws.specs.Turns.{turns}
 use Rattle.numbers.specs.Numbers.{absOf, isFinite}
-use Rattle.receiver.specs.declared.samples.Level.{Level}
+use Rattle.samples.specs.declared.level.Level.{Level}
 
 abbrev pub countOf : List Float → ℕ
 countOf xs = length xs / 2

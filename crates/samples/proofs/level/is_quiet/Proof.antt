@@ -1,8 +1,8 @@
 use mathlib.Core.Path.{refl}
 use lib.Ieee.{ofBits, neg, le}
-use Rattle.receiver.specs.Loud.{quietOf}
-use Rattle.receiver.proofs.samples.is_quiet.Statement.{statement}
-use Rattle.receiver.proofs.samples.is_quiet.Tie as tie
+use Rattle.samples.specs.Loud.{quietOf}
+use Rattle.samples.proofs.level.is_quiet.Statement.{statement}
+use Rattle.samples.proofs.level.is_quiet.Tie as tie
 
 returns : tie.Need-returns
 unfolding quietOf ofBits neg le

@@ -1,7 +1,7 @@
 // The run over a block's samples: a row of values from the front, the row through the chain, until the
 // samples are used up.
 ghost use mathlib.Core.Path.{_≡_};
-ghost use Rattle.receiver.specs.Run.{wholeNow, wholeOf, Going, ReadyRun};
+ghost use Rattle.samples.specs.Run.{wholeNow, wholeOf, Going, ReadyRun};
 use chain::ChainPlace;
 use front::FrontPlace;
 use sequence::soft::Records;

@@ -1,10 +1,10 @@
 use Prim.Native.Nat.{_-_, _≤_}
 use mathlib.Core.Path.{_≡_, _∙_}
 use Rattle.laws.specs.Turns.{turns, turns-start, turns-step, turns-end}
-use Rattle.receiver.specs.Loud.{loudTurn, loudSamples}
+use Rattle.samples.specs.Loud.{loudTurn, loudSamples}
 use borrow.Author.Needs.{needs}
-use Rattle.receiver.proofs.samples.loud_samples.Statement.{statement}
-use Rattle.receiver.proofs.samples.loud_samples.Tie as tie
+use Rattle.samples.proofs.level.loud_samples.Statement.{statement}
+use Rattle.samples.proofs.level.loud_samples.Tie as tie
 
 abbrev Inv-loop : tie.InvT-loop
 Inv-loop samples n count₀ i₀ count i = (i ≤ n) × (count ≤ i) × (count ≡ turns (loudTurn samples) i 0)

@@ -17,7 +17,7 @@ use Rattle.front.specs.Rows.{Filled, filled}
 use Rattle.chain.specs.Rows.{Lent, start, ranOf, valuesOf, chainOf}
 use Rattle.chain.specs.Ranges.{Asks}
 use Rattle.chain.specs.RowLaws.{Left, rows}
-use Rattle.receiver.specs.Run.{Whole, frontAt, lentAt, wholeOf, Going, ReadyRun}
+use Rattle.samples.specs.Run.{Whole, frontAt, lentAt, wholeOf, Going, ReadyRun}
 
 -- no value, nothing told
 chain-none : (l : Lent) → l ≡ chainOf [] (l .state) (l .records) (l .room)

@@ -2,11 +2,11 @@ use Prim.Native.Nat.{_-_, _/_}
 use mathlib.Core.Path.{_≡_}
 use native.Mathlib.Omega.{arith}
 use lib.ListN.{length}
-use Rattle.receiver.specs.Run.{wholeNow, Going}
-use Rattle.receiver.specs.RunLaws.{going-start, front-asks, chain-asks, row-filled, going-on, going-less, going-within, going-end}
+use Rattle.samples.specs.Run.{wholeNow, Going}
+use Rattle.samples.specs.RunLaws.{going-start, front-asks, chain-asks, row-filled, going-on, going-less, going-within, going-end}
 use borrow.Author.Needs.{needs}
-use Rattle.receiver.proofs.run.run.Statement.{statement}
-use Rattle.receiver.proofs.run.run.Tie as tie
+use Rattle.samples.proofs.run.run.Statement.{statement}
+use Rattle.samples.proofs.run.run.Tie as tie
 
 abbrev Inv-loop : tie.InvT-loop
 Inv-loop conjugated samples table ring-real₀ ring-imaginary₀ keeper-real₀ keeper-imaginary₀ clock-real₀ clock-imaginary₀ weight-real₀ weight-imaginary₀ channel-real₀ channel-imaginary₀ costs₀ parents₀ view-real₀ view-imaginary₀ dibits₀ reliabilities₀ n row-real₀ row-imaginary₀ t₀ ring-real ring-imaginary keeper-real keeper-imaginary clock-real clock-imaginary weight-real weight-imaginary channel-real channel-imaginary costs parents view-real view-imaginary dibits reliabilities row-real row-imaginary t =

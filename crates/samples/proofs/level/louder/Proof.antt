@@ -1,8 +1,8 @@
 use native.Mathlib.Nat.{add-zero}
 use mathlib.Core.Path.{refl, sym}
 use borrow.Author.Needs.{needs}
-use Rattle.receiver.proofs.samples.louder.Statement.{statement}
-use Rattle.receiver.proofs.samples.louder.Tie as tie
+use Rattle.samples.proofs.level.louder.Statement.{statement}
+use Rattle.samples.proofs.level.louder.Tie as tie
 
 is-quiet-requires : tie.Need-is-quiet-requires
 is-quiet-requires c κs = search needs

@@ -11,7 +11,7 @@ use Rattle.chain.specs.Chain.{stateOf}
 use Rattle.chain.specs.Rows.{Lent, chainOf}
 use Rattle.chain.specs.Ranges.{Asks}
 use Rattle.chain.specs.RowLaws.{Left}
-use Rattle.receiver.specs.declared.run.Running.{Running}
+use Rattle.samples.specs.declared.run.Running.{Running}
 
 -- a front, a chain with what it is lent, and which sample is next
 pub record Whole : Type 0 where

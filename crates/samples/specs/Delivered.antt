@@ -11,7 +11,7 @@ use Rattle.front.specs.Front as front
 use Rattle.front.specs.Steps.{values-two}
 use Rattle.chain.specs.Ranges.{Ranged}
 use Rattle.chain.specs.RowLaws.{chain-left}
-use Rattle.receiver.specs.Run.{Whole, frontAt, wholeOf}
+use Rattle.samples.specs.Run.{Whole, frontAt, wholeOf}
 
 module _ (conjugated : Bool) (table xs : List Float) where
   -- n samples make at most 2 n values

@@ -1,6 +1,6 @@
 use borrow.Author.Needs.{needs}
-use Rattle.receiver.proofs.samples.still_finite.Statement.{statement}
-use Rattle.receiver.proofs.samples.still_finite.Tie as tie
+use Rattle.samples.proofs.level.still_finite.Statement.{statement}
+use Rattle.samples.proofs.level.still_finite.Tie as tie
 
 is-finite32-requires : tie.Need-is-finite32-requires
 is-finite32-requires c κs = search needs

@@ -1,7 +1,7 @@
-use Rattle.receiver.specs.Loud.{level-quiet, level-loud, level-unsound}
+use Rattle.samples.specs.Loud.{level-quiet, level-loud, level-unsound}
 use borrow.Author.Needs.{needs}
-use Rattle.receiver.proofs.samples.heard.Statement.{statement}
-use Rattle.receiver.proofs.samples.heard.Tie as tie
+use Rattle.samples.proofs.level.heard.Statement.{statement}
+use Rattle.samples.proofs.level.heard.Tie as tie
 
 loud-samples-requires : tie.Need-loud-samples-requires
 loud-samples-requires c κs = search needs

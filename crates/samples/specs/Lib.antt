@@ -1,0 +1,5 @@
+pub mod Samples
+pub mod Loud
+pub mod Run
+pub mod RunLaws
+pub mod Delivered
