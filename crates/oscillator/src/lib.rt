@@ -119,8 +119,5 @@ pub fn stepped(o: Oscillator, sample: Complex32, conjugated: bool) -> Step
 {
     let mut oscillator = o;
     let value = mix(&mut oscillator, sample, conjugated);
-    Step {
-        oscillator,
-        value,
-    }
+    Step { oscillator, value }
 }
