@@ -101,10 +101,10 @@ fn single(p: FrontPlace, conjugated: bool, samples: &[f32], from: usize) -> Draw
         imaginary: samples[2 * from + 1],
     };
     let t = oscillator::stepped(o, sample, conjugated);
-    let oscillator = t.oscillator;
+    let turned = t.oscillator;
     let z = t.value;
     Drawn {
-        oscillator,
+        oscillator: turned,
         decimator,
         output: Output::Value(z),
         run: 1,
