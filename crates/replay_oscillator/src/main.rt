@@ -71,10 +71,10 @@ fn sampled(h: u64, o: Oscillator, real: f32, imaginary: f32, conjugated: bool) -
     let s = oscillator::stepped(o, Complex32 { real, imaginary }, conjugated);
     let z = s.value;
     let next = s.oscillator;
-    let part = mixed_float32(mixed_float32(h, z.real), z.imaginary);
+    let so_far = mixed_float32(mixed_float32(h, z.real), z.imaginary);
     Turn {
         oscillator: next,
-        digest: mixed_oscillator(part, next),
+        digest: mixed_oscillator(so_far, next),
     }
 }
 
