@@ -49,17 +49,17 @@ pub struct Offering {
     pub made: usize,
 }
 
+// One sample: the oscillator is lent and turned, the integrators take what it made.
 fn gathered(g: Gathering, conjugated: bool, sample: Complex32) -> Gathering
     requires { ⌜ Number sample ⌝ }
     requires { ⌜ g .oscillator .renormalize < 4096 ⌝ }
     ensures same { λ r. ⌜ r ≡ gatheredOf conjugated g sample ⌝ }
     ensures kept { λ r. ⌜ r .oscillator .renormalize < 4096 ⌝ }
 {
-    let o = g.oscillator;
+    let mut oscillator = g.oscillator;
     let s = g.integrators;
-    let z = oscillator::mixed(o, sample, conjugated);
+    let z = oscillator::mix(&mut oscillator, sample, conjugated);
     let integrators = decimator::gathered(s, z);
-    let oscillator = oscillator::turned(o);
     Gathering {
         oscillator,
         integrators,
@@ -100,10 +100,11 @@ fn single(p: FrontPlace, conjugated: bool, samples: &[f32], from: usize) -> Draw
         real: samples[2 * from],
         imaginary: samples[2 * from + 1],
     };
-    let z = oscillator::mixed(o, sample, conjugated);
-    let oscillator = oscillator::turned(o);
+    let t = oscillator::stepped(o, sample, conjugated);
+    let turned = t.oscillator;
+    let z = t.value;
     Drawn {
-        oscillator,
+        oscillator: turned,
         decimator,
         output: Output::Value(z),
         run: 1,

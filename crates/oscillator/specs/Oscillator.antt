@@ -9,6 +9,7 @@ use Rattle.complex.specs.Complex.{narrowedOf}
 use Rattle.complex.specs.declared.Complex32.{Complex32}
 use Rattle.complex.specs.declared.Complex64.{Complex64}
 use Rattle.oscillator.specs.declared.Oscillator.{Oscillator}
+use Rattle.oscillator.specs.declared.Step.{Step}
 
 -- `-2.0 * PI * offset / rate`
 abbrev pub angleOf : Float → Float → Float
@@ -62,3 +63,7 @@ productOf o s conjugated = record {
 
 abbrev pub mixedOf : Oscillator → Complex32 → Bool → Complex32
 mixedOf o s conjugated = narrowedOf (productOf o s conjugated)
+
+-- a sample is mixed, and the oscillator turned after it
+abbrev pub steppedOf : Oscillator → Complex32 → Bool → Step
+steppedOf o s conjugated = record { oscillator = turnedOf o; value = mixedOf o s conjugated }

@@ -1,7 +1,8 @@
 // The mixer: a complex oscillator that turns by one step a sample, in f64.
 ghost use mathlib.Core.Path.{_≡_};
 ghost use Prim.Native.Nat.{_<_};
-ghost use Rattle.oscillator.specs.Oscillator.{freshOscillator, renormalizedOf, turnedOf, signedBy, Number, productOf, mixedOf};
+ghost use Rattle.oscillator.specs.declared.Step.{Step};
+ghost use Rattle.oscillator.specs.Oscillator.{freshOscillator, renormalizedOf, turnedOf, signedBy, Number, productOf, mixedOf, steppedOf};
 use complex::Complex32;
 use complex::Complex64;
 use numbers::root::sqrt;
@@ -15,6 +16,12 @@ pub struct Oscillator {
     pub step_real: f64,
     pub step_imaginary: f64,
     pub renormalize: usize,
+}
+
+// After a sample: the oscillator, and the sample mixed.
+pub struct Step {
+    pub oscillator: Oscillator,
+    pub value: Complex32,
 }
 
 const PI: f64 = 3.141592653589793;
@@ -92,4 +99,25 @@ pub fn mixed(o: Oscillator, sample: Complex32, conjugated: bool) -> Complex32
     ensures { λ r. ⌜ r ≡ mixedOf o sample conjugated ⌝ }
 {
     complex::narrowed(product(o, sample, conjugated))
+}
+
+// The oscillator is lent: it mixes the sample as it stands, and is turned there.
+pub fn mix(o: &mut Oscillator, sample: Complex32, conjugated: bool) -> Complex32
+    requires { ⌜ Number sample × (now o .renormalize < 4096) ⌝ }
+    ensures { λ r. ⌜ _≡_ {A = Step} (record { oscillator = now (o .exit); value = r }) (steppedOf (now (o .entry)) sample conjugated) ⌝ }
+{
+    let before = *o;
+    let after = turned(before);
+    *o = after;
+    mixed(before, sample, conjugated)
+}
+
+// The same by value: a copy is lent.
+pub fn stepped(o: Oscillator, sample: Complex32, conjugated: bool) -> Step
+    requires { ⌜ Number sample × (o .renormalize < 4096) ⌝ }
+    ensures { λ r. ⌜ r ≡ steppedOf o sample conjugated ⌝ }
+{
+    let mut oscillator = o;
+    let value = mix(&mut oscillator, sample, conjugated);
+    Step { oscillator, value }
 }

@@ -16,6 +16,12 @@ use replay::word;
 // A record: six words.
 const RECORD: usize = 48;
 
+// The oscillator after a sample, and the digest so far.
+struct Turn {
+    oscillator: Oscillator,
+    digest: u64,
+}
+
 fn random(s: u64) -> u64 {
     let a = s ^ (s << 13);
     let b = a ^ (a >> 7);
@@ -45,16 +51,31 @@ fn mixed_oscillator(h: u64, o: Oscillator) -> u64 {
     )
 }
 
-// The mixed sample; one that is NaN is not mixed.
-fn mixed_sample(h: u64, o: Oscillator, real: f32, imaginary: f32, conjugated: bool) -> u64 {
+// A sample through the lent oscillator: what it left, and the digest with both. A NaN is no sample.
+fn sampled(h: u64, o: Oscillator, real: f32, imaginary: f32, conjugated: bool) -> Turn
+    requires { ⌜ o .renormalize < 4096 ⌝ }
+    ensures { λ r. ⌜ r .oscillator .renormalize < 4096 ⌝ }
+{
     if is_nan32(real) {
-        return h;
+        return Turn {
+            oscillator: o,
+            digest: h,
+        };
     }
     if is_nan32(imaginary) {
-        return h;
+        return Turn {
+            oscillator: o,
+            digest: h,
+        };
     }
-    let z = oscillator::mixed(o, Complex32 { real, imaginary }, conjugated);
-    mixed_float32(mixed_float32(h, z.real), z.imaginary)
+    let s = oscillator::stepped(o, Complex32 { real, imaginary }, conjugated);
+    let z = s.value;
+    let next = s.oscillator;
+    let so_far = mixed_float32(mixed_float32(h, z.real), z.imaginary);
+    Turn {
+        oscillator: next,
+        digest: mixed_oscillator(so_far, next),
+    }
 }
 
 // Where a run starts.
@@ -90,10 +111,9 @@ fn run(before: Oscillator, seed: u64, steps: u64, kind: u64, conjugated: bool) -
     while left > 0 {
         let first = random(s);
         let second = random(first);
-        let mixed_so_far = mixed_sample(h, o, part(first, kind), part(second, kind), conjugated);
-        let next = oscillator::turned(o);
-        h = mixed_oscillator(mixed_so_far, next);
-        o = next;
+        let t = sampled(h, o, part(first, kind), part(second, kind), conjugated);
+        h = t.digest;
+        o = t.oscillator;
         s = second;
         left -= 1;
     }

@@ -1,6 +1,5 @@
 -- `replay_oscillator::run` is safe and ends: fewer steps are left at each turn. Assumes nothing.
 use Prim.Native.Nat.{_<_}
-use Rattle.oscillator.specs.Laws.{still-below}
 use borrow.Author.Needs.{needs}
 use Rattle.replay_oscillator.proofs.run.Statement.{statement}
 use Rattle.replay_oscillator.proofs.run.Tie as tie
@@ -26,14 +25,8 @@ part-requires c κs = search needs
 part-requires-2 : tie.Need-part-requires-2 Inv-loop μ-loop
 part-requires-2 c κs = search needs
 
-mixed-sample-requires : tie.Need-mixed-sample-requires Inv-loop μ-loop
-mixed-sample-requires c κs = search needs
-
-turned-requires : tie.Need-turned-requires Inv-loop μ-loop
-turned-requires c κs = search needs
-
-mixed-oscillator-requires : tie.Need-mixed-oscillator-requires Inv-loop μ-loop
-mixed-oscillator-requires c κs = search needs
+sampled-requires : tie.Need-sampled-requires Inv-loop μ-loop
+sampled-requires c κs = search needs
 
 sub-left : tie.Need-sub-left Inv-loop μ-loop
 sub-left c = search needs
@@ -42,7 +35,7 @@ loop-less : tie.Need-loop-less Inv-loop μ-loop
 loop-less c = search needs
 
 loop-again : tie.Need-loop-again Inv-loop μ-loop
-loop-again c = still-below _ _ (c .before .before .before .before .before .before .before .before .loop .inv) (c .before .turned .ensures)
+loop-again c = search needs
 
 print-line-requires : tie.Need-print-line-requires Inv-loop μ-loop
 print-line-requires c κs = search needs
@@ -61,9 +54,7 @@ run-spec =
     random-requires-2
     part-requires
     part-requires-2
-    mixed-sample-requires
-    turned-requires
-    mixed-oscillator-requires
+    sampled-requires
     sub-left
     loop-less
     loop-again
