@@ -28,7 +28,7 @@ use Rattle.samples.specs.Samples.{countOf, finiteOf}
 use Rattle.receiver.specs.Admitted.{admittedOf}
 use Rattle.receiver.specs.Fits.{fits-from}
 use Rattle.samples.specs.Run.{frontAt, wholeOf, Going, ReadyRun}
-use Rattle.receiver.specs.Block.{countRefused, roomRefused, judgedOf, startOf, blockOf}
+use Rattle.receiver.specs.Block.{countRefused, roomRefused, judgedOf, statedOf, startOf, blockOf}
 use Rattle.receiver.specs.BlockWays.{counted}
 use Rattle.receiver.specs.BlockLaws.{ReadyBlock, ready-block, numbers-of, run-asks, run-admitted}
 use Rattle.promises.specs.Deliveries.{afterOf, number-is, accepted-is}
@@ -60,7 +60,7 @@ uncounted total floats few even room = rw (le-ltb 65536 (floats / 2) few, ne-eqb
 module _ (r : Receiver) (table xs : List Float) (ds rs : List ℕ) where
   -- accepted exactly where no check applies
   pub accepted-passes : blockOf r table xs ds rs .number ≡ 0 → Passes r table xs ds rs
-  unfolding judgedOf
+  unfolding statedOf
   accepted-passes h =
       let z = sym (number-is r table xs ds rs) ∙ h in
       let k = ready-block r table xs (length ds) (length rs) z in
@@ -81,7 +81,7 @@ module _ (r : Receiver) (table xs : List Float) (ds rs : List ℕ) where
       }
 
   pub passes-accepted : Passes r table xs ds rs → blockOf r table xs ds rs .number ≡ 0
-  unfolding judgedOf
+  unfolding statedOf
   passes-accepted k = number-is r table xs ds rs ∙ rw (
     k .admitted,
     le-ltb (length table) (32 * r .front .resampler .arm) (k .table-in),

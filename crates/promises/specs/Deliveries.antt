@@ -25,7 +25,7 @@ use Rattle.samples.specs.Samples.{countOf, overloadOf}
 use Rattle.samples.specs.Run.{frontAt, wholeOf}
 use Rattle.samples.specs.Delivered.{values-most}
 use Rattle.receiver.specs.BlockLaws.{ready-block}
-use Rattle.receiver.specs.Block.{Judged, judgedBy, judgedOf, startOf, receiverOf, Outcome, acceptedOf, blockBy, blockOf}
+use Rattle.receiver.specs.Block.{Judged, judgedBy, judgedOf, statedOf, startOf, receiverOf, Outcome, acceptedOf, blockBy, blockOf}
 
 -- ---- the list
 
@@ -199,7 +199,7 @@ delivered-fits r table xs ds rs h =
 
 -- THE LAW of the block: an accepted block by what it delivers
 pub accepted-is : (r : Receiver) (table xs : List Float) (ds rs : List ℕ) → blockOf r table xs ds rs .number ≡ 0 → blockOf r table xs ds rs ≡ outcomeOf r table xs ds rs
-unfolding blockOf judgedOf
+unfolding blockOf statedOf
 accepted-is r table xs ds rs h =
     let k = delivered-fits r table xs ds rs h in
     accepted-so _ r table xs ds rs (sym (number-is r table xs ds rs) ∙ h) ∙ laid r table xs ds rs (k .0) (k .1)

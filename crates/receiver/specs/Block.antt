@@ -7,6 +7,8 @@ use lib.ListN.{length}
 use lib.Ieee.{Float}
 use Rattle.chain.specs.Labels.{conjugates}
 use Rattle.chain.specs.Chain.{stateOf}
+use Rattle.chain.specs.declared.ChainPlace.{ChainPlace}
+use Rattle.front.specs.declared.FrontPlace.{FrontPlace}
 use Rattle.receiver.specs.declared.refusal.Verdict.{Verdict}
 use Rattle.receiver.specs.declared.state.Receiver.{Receiver}
 use Rattle.receiver.specs.declared.state.Snapshot.{Snapshot}
@@ -16,7 +18,7 @@ use Rattle.receiver.specs.State.{zeroSnapshot, snapshotOf}
 use Rattle.samples.specs.Run.{Whole, wholeOf}
 use Rattle.receiver.specs.Refusal.{numberOf, Check, firstOf}
 use Rattle.samples.specs.Samples.{countOf, finiteOf, overloadOf}
-use Rattle.receiver.specs.Admitted.{admittedOf}
+use Rattle.receiver.specs.Admitted.{stateFits}
 
 -- ---- the checks, in their order
 
@@ -34,8 +36,8 @@ laterChecks total arm xs table dibits reliabilities =
     record { number = 3; applies = ltb table (32 * arm) } ∷ record { number = 4; applies = countRefused total (length xs) }
     ∷ record { number = 6; applies = roomRefused (countOf xs) dibits reliabilities } ∷ record { number = 5; applies = not (finiteOf xs) } ∷ []
 
-abbrev pub blockChecks : Receiver → List Float → ℕ → ℕ → ℕ → List Check
-blockChecks r xs table dibits reliabilities = record { number = 7; applies = not (admittedOf r) } ∷ laterChecks (r .total) (r .front .resampler .arm) xs table dibits reliabilities
+abbrev pub blockChecks : ℕ → FrontPlace → ChainPlace → List ℕ → List Float → ℕ → ℕ → ℕ → List Check
+blockChecks total front chain parents xs table dibits reliabilities = record { number = 7; applies = not (stateFits total front chain parents) } ∷ laterChecks total (front .resampler .arm) xs table dibits reliabilities
 
 abbrev pub refusedBy : Verdict → Checked
 refusedBy v = record { verdict = v; overload = 0 }
@@ -54,8 +56,12 @@ judgedBy number xs = record { number = number; overload = cond (eqb number 0) (o
 unfoldable pub laterOf : ℕ → ℕ → List Float → ℕ → ℕ → ℕ → Judged
 laterOf total arm xs table dibits reliabilities = judgedBy (firstOf (laterChecks total arm xs table dibits reliabilities)) xs
 
-unfoldable pub judgedOf : Receiver → List Float → ℕ → ℕ → ℕ → Judged
-judgedOf r xs table dibits reliabilities = judgedBy (firstOf (blockChecks r xs table dibits reliabilities)) xs
+-- by what the checks look at of a state
+unfoldable pub statedOf : ℕ → FrontPlace → ChainPlace → List ℕ → List Float → ℕ → ℕ → ℕ → Judged
+statedOf total front chain parents xs table dibits reliabilities = judgedBy (firstOf (blockChecks total front chain parents xs table dibits reliabilities)) xs
+
+abbrev pub judgedOf : Receiver → List Float → ℕ → ℕ → ℕ → Judged
+judgedOf r xs table dibits reliabilities = statedOf (r .total) (r .front) (r .chain) (r .parents) xs table dibits reliabilities
 
 -- ---- an accepted block: the front over all samples, and the chain over all its values
 

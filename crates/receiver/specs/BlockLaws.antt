@@ -25,7 +25,7 @@ use Rattle.samples.specs.Loud.{finite-parts}
 use Rattle.receiver.specs.Admitted.{admittedOf}
 use Rattle.receiver.specs.Fits.{Fits, fits-from, fits-to}
 use Rattle.samples.specs.Run.{Whole, wholeOf, Going, ReadyRun}
-use Rattle.receiver.specs.Block.{countRefused, roomRefused, Judged, judgedNow, judgedOf, startOf, receiverOf, outcomeNow, endedOf, acceptedOf, refusedBlock, blockOf}
+use Rattle.receiver.specs.Block.{countRefused, roomRefused, Judged, judgedNow, judgedOf, statedOf, startOf, receiverOf, outcomeNow, endedOf, acceptedOf, refusedBlock, blockOf}
 use Rattle.receiver.specs.BlockWays.{counted}
 
 pub record ReadyBlock (r : Receiver) (table xs : List Float) (dibits reliabilities : ℕ) : Type 0 where
@@ -161,7 +161,7 @@ not-not true h = refl
 not-not false h = absurd (true≢false h)
 
 pub ready-block : (r : Receiver) (table xs : List Float) (dibits reliabilities : ℕ) → judgedOf r xs (length table) dibits reliabilities .number ≡ 0 → ReadyBlock r table xs dibits reliabilities
-unfolding judgedOf
+unfolding statedOf
 ready-block r table xs dibits reliabilities h =
     let z = first-none (not (admittedOf r)) (ltb (length table) (32 * r .front .resampler .arm)) (countRefused (r .total) (length xs)) (roomRefused (countOf xs) dibits reliabilities) (not (finiteOf xs)) h in
     let q = counted (r .total) (length xs) (countRefused (r .total) (length xs)) refl (z .2) in

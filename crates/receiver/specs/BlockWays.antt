@@ -11,13 +11,14 @@ use lib.Ieee.{Float}
 use borrow.Author.Tests.{lt-ltb, le-ltb, ltb-false, eqb-false}
 use Rattle.laws.specs.Ring.{lt-or-ge}
 use Rattle.receiver.specs.declared.refusal.Verdict.the-variants.{Accepted, Table, Count, Sample, Room, State}
-use Rattle.receiver.specs.declared.state.Receiver.{Receiver}
+use Rattle.chain.specs.declared.ChainPlace.{ChainPlace}
+use Rattle.front.specs.declared.FrontPlace.{FrontPlace}
 use Rattle.samples.specs.declared.level.Level.{Level}
 use Rattle.receiver.specs.declared.block.Checked.{Checked}
 use Rattle.samples.specs.Samples.{countOf, finiteOf, levelOf}
-use Rattle.receiver.specs.Admitted.{admittedOf}
+use Rattle.receiver.specs.Admitted.{stateFits}
 use Rattle.receiver.specs.Fits.{fits-from}
-use Rattle.receiver.specs.Block.{countRefused, roomRefused, refusedBy, judgedNow, laterOf, judgedOf}
+use Rattle.receiver.specs.Block.{countRefused, roomRefused, refusedBy, judgedNow, laterOf, statedOf}
 
 -- ---- how many
 pub count-many : (total floats : ℕ) → 65536 < floats / 2 → true ≡ countRefused total floats
@@ -88,16 +89,17 @@ module _ (total arm : ℕ) (xs : List Float) (table dibits reliabilities : ℕ) 
             go false h = rw (le-ltb table (32 * arm) roomy, ← ae, af, ← be, bf, h, e)
 
 -- ---- check 7
-pub judged-ranges : (r : Receiver) (b : Bool) → b ≡ admittedOf r → b ≡ true → (r .total ≤ 2 ^ 52) × (r .front .resampler .arm ≤ 576)
-judged-ranges r b e t =
-    let k = fits-from (r .total) (r .front) (r .chain) (r .parents) (sym e ∙ t) in
-    (k .total-in, k .front-fits .ring .arm-high)
+module _ (total : ℕ) (front : FrontPlace) (chain : ChainPlace) (parents : List ℕ) (b : Bool) (be : b ≡ stateFits total front chain parents) where
+  pub judged-ranges : b ≡ true → (total ≤ 2 ^ 52) × (front .resampler .arm ≤ 576)
+  judged-ranges t =
+      let k = fits-from total front chain parents (sym be ∙ t) in
+      (k .total-in, k .front-fits .ring .arm-high)
 
-module _ (r : Receiver) (xs : List Float) (table dibits reliabilities : ℕ) (b : Bool) (be : b ≡ admittedOf r) where
-  pub judged-state : (c : Checked) → b ≡ false → c ≡ refusedBy State → judgedNow c ≡ judgedOf r xs table dibits reliabilities
-  unfolding judgedOf
-  judged-state c f e = rw (← be, f, e)
+  module _ (xs : List Float) (table dibits reliabilities : ℕ) (c : Checked) where
+    pub judged-state : b ≡ false → c ≡ refusedBy State → judgedNow c ≡ statedOf total front chain parents xs table dibits reliabilities
+    unfolding statedOf
+    judged-state f e = rw (← be, f, e)
 
-  pub judged-later : (c : Checked) → b ≡ true → judgedNow c ≡ laterOf (r .total) (r .front .resampler .arm) xs table dibits reliabilities → judgedNow c ≡ judgedOf r xs table dibits reliabilities
-  unfolding judgedOf laterOf
-  judged-later c t e = rw (← be, t) e
+    pub judged-later : b ≡ true → judgedNow c ≡ laterOf total (front .resampler .arm) xs table dibits reliabilities → judgedNow c ≡ statedOf total front chain parents xs table dibits reliabilities
+    unfolding statedOf laterOf
+    judged-later t e = rw (← be, t) e

@@ -2,7 +2,7 @@
 ghost use mathlib.Core.Path.{_≡_};
 ghost use Prim.Native.Nat.{_≤_, _^_};
 ghost use lib.ListN.{length};
-ghost use Rattle.receiver.specs.Block.{countRefused, roomRefused, refusedBy, judgedNow, laterOf, judgedOf, outcomeNow, acceptedOf, refusedBlock, blockOf};
+ghost use Rattle.receiver.specs.Block.{countRefused, roomRefused, refusedBy, judgedNow, laterOf, statedOf, outcomeNow, acceptedOf, refusedBlock, blockOf};
 ghost use Rattle.receiver.specs.BlockLaws.{ReadyBlock};
 ghost use Rattle.receiver.specs.Admitted.{admittedOf};
 ghost use Rattle.receiver.specs.Refusal.{numberOf};
@@ -15,7 +15,9 @@ use crate::state::Receiver;
 use crate::state::Snapshot;
 use crate::state::snapshot_of;
 use crate::state::zero_snapshot;
+use chain::ChainPlace;
 use chain::label::is_conjugated;
+use front::FrontPlace;
 use samples::level::heard;
 use samples::run::Running;
 use samples::run::run;
@@ -96,27 +98,20 @@ fn checked_block(
 
 // Check 7 first.
 fn judged(
-    r: Receiver,
+    total: u64,
+    front: FrontPlace,
+    chain: ChainPlace,
+    parents: &[u8; 2048],
     samples: &[f32],
     table: usize,
     dibits: usize,
     reliabilities: usize,
 ) -> Checked
-    ensures { λ c. ⌜ judgedNow c ≡ judgedOf r (now (samples .entry)) table dibits reliabilities ⌝ }
+    ensures { λ c. ⌜ judgedNow c ≡ statedOf total front chain (now (parents .entry)) (now (samples .entry)) table dibits reliabilities ⌝ }
 {
-    let front = r.front;
-    let chain = r.chain;
-    let parents = r.parents;
-    if is_admitted(r.total, front, chain, &parents) {
+    if is_admitted(total, front, chain, parents) {
         let resampler = front.resampler;
-        return checked_block(
-            r.total,
-            resampler.arm,
-            samples,
-            table,
-            dibits,
-            reliabilities,
-        );
+        return checked_block(total, resampler.arm, samples, table, dibits, reliabilities);
     }
     refused_by(Verdict::State)
 }
@@ -241,7 +236,19 @@ pub fn take(
     ensures kept { λ x. ⌜ (numberOf (x .verdict) ≡ 0 → admittedOf (x .receiver) ≡ true) ⌝ }
     ensures most { λ x. ⌜ x .count ≤ length (now (samples .entry)) ⌝ }
 {
-    let c = judged(r, samples, table.len(), dibits.len(), reliabilities.len());
+    let front = r.front;
+    let chain = r.chain;
+    let parents = r.parents;
+    let c = judged(
+        r.total,
+        front,
+        chain,
+        &parents,
+        samples,
+        table.len(),
+        dibits.len(),
+        reliabilities.len(),
+    );
     let verdict = c.verdict;
     if is_accepted(verdict) {
         return accepted(r, c.overload, samples, table, dibits, reliabilities);
