@@ -51,6 +51,7 @@ mod script_writer;
 mod selftest;
 mod sequence_list;
 mod state;
+mod story;
 mod table;
 mod tables;
 mod taps;
@@ -98,6 +99,7 @@ fn run(words: &[&str]) -> Outcome {
         ["taps", rest @ ..] => taps::run(rest),
         ["bench"] => bench::run(),
         ["script", rest @ ..] => script_writer::run(rest),
+        ["story"] => story::run(),
         ["selftest", rest @ ..] => selftest::run(rest),
         _ => Err("no such subcommand; oracle/run help lists them".into()),
     }
