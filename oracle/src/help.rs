@@ -83,6 +83,8 @@ const AFTER_STAGES: &str = "
       (src/story.rs says of which signal)
   bench < FOUR WORDS
       what bench/run times
+  size RATE
+      the bytes of a receiver: itself, ring, drift tracking, the resampler's taps, the clock's tables
 
   selftest [STATES]
       the oracle's test of itself, on so many random states (400)

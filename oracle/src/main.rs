@@ -98,6 +98,7 @@ fn run(words: &[&str]) -> Outcome {
         ["resampler", rest @ ..] => resampler_list::run(rest),
         ["taps", rest @ ..] => taps::run(rest),
         ["bench"] => bench::run(),
+        ["size", rate] => bench::size(rate),
         ["script", rest @ ..] => script_writer::run(rest),
         ["story"] => story::run(),
         ["selftest", rest @ ..] => selftest::run(rest),
