@@ -43,7 +43,7 @@ fn with_other(t: Tally) -> Tally {
     }
 }
 
-fn with(t: Tally, answer: Answer) -> Tally {
+fn tallied(t: Tally, answer: Answer) -> Tally {
     match answer {
         Answer::Silent => with_silent(t),
         Answer::Dibit(dibit, first, second) => {
@@ -89,7 +89,7 @@ fn detect(
         );
         records = stored(records, write, d);
         let answer = d.answer;
-        t = with(t, answer);
+        t = tallied(t, answer);
         place = d.place;
         left -= 1;
     }

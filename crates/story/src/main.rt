@@ -1,7 +1,8 @@
 // The customer's story: a strong neighbour, then silence, then a weak channel, at 384,000 samples a
-// second (d 2, c 288). Writes a line for each dibit with its two reliabilities, and after each
-// chapter what the front still holds of the neighbour, as oracle/src/story.rs lays it out: every line
-// is the Rust's, so that no dibit is marked reliable that the Rust does not mark.
+// second (d 2, c 288). Writes a line for each dibit with its two reliabilities, and after each chapter
+// what the front still holds of the neighbour, as oracle/src/story.rs lays it out. Every line is the
+// Rust's, so that no dibit is marked reliable that the Rust does not mark. The silence has 2,048
+// samples; the front has forgotten what was before it after (c + 3) d of them, 582 (`front-forgets`).
 ghost use mathlib.Core.Path.{_≡_};
 ghost use Prim.Native.Nat.{_≤_};
 ghost use lib.ListN.{length};

@@ -34,8 +34,8 @@ step-requires c κs = c .before .before .before .before .before .before .before 
 stored-requires : tie.Need-stored-requires Inv-loop μ-loop
 stored-requires c κs = c .before .before .before .before .before .before .before .before .before .loop .inv .write
 
-with-requires : tie.Need-with-requires Inv-loop μ-loop
-with-requires c κs = search needs
+tallied-requires : tie.Need-tallied-requires Inv-loop μ-loop
+tallied-requires c κs = search needs
 
 sub-left : tie.Need-sub-left Inv-loop μ-loop
 sub-left c = omega (arith, c .before .before .before .before .before .before .before .before .before .before .before .loop-test)
@@ -62,7 +62,7 @@ detect-spec =
     oldest-requires
     step-requires
     stored-requires
-    with-requires
+    tallied-requires
     sub-left
     loop-less
     loop-again
