@@ -7,6 +7,7 @@ use crate::receiver::Dsp;
 use crate::samples::{read_full, word64};
 use crate::script::seeded;
 use std::io;
+use std::mem::{size_of, size_of_val};
 
 /// The samples that blocks are taken from, again and again.
 const SAMPLES: usize = 65_536;
@@ -76,4 +77,23 @@ fn reads(rate: f64, samples: &[Complex32], count: u64) -> Result<u64, String> {
         digest = folded(folded(digest, held as u64), error.to_bits());
     }
     Ok(digest)
+}
+
+/// The bytes of a receiver of a rate: itself, and on the heap its ring, the drift tracking's state (which
+/// we leave out), the resampler's taps and the clock's tables.
+pub fn size(rate: &str) -> Result<(), String> {
+    let rate = rate.parse().map_err(|_| format!("{rate}: not a number"))?;
+    let dsp = Dsp::new(rate, 0.0)?;
+    let (resampler, clock) = (&dsp.0.resampler, &dsp.0.symbols.clock);
+    let sequence = &dsp.0.symbols.carrier.sequence;
+    let rows = |arms: &Vec<Vec<f32>>| -> usize {
+        let row = |arm: &Vec<f32>| size_of_val(arm) + arm.capacity() * size_of::<f32>();
+        arms.iter().map(row).sum()
+    };
+    let ring = resampler.ring.capacity() * size_of::<Complex32>();
+    let drift = size_of_val(&*sequence.drift) + size_of_val(&*sequence.drift_next);
+    let taps = rows(&resampler.arms);
+    let tables = rows(&clock.arms) + rows(&clock.derivatives);
+    println!("{} {ring} {drift} {taps} {tables}", size_of::<Dsp>());
+    Ok(())
 }

@@ -180,10 +180,9 @@ fn sample(
     random: &mut Random,
 ) -> Complex32 {
     let seconds = n as f64 / plan.rate;
-    let mut value = stream.at(time);
-    if let Some([delay, gain, turn]) = plan.echo {
-        let late = stream.at(time - delay).scaled(gain);
-        value = value.plus(late.times(turned(turn)));
+    let mut value = Complex64::default();
+    if n >= plan.onset {
+        value = direct_and_echo(plan, time, stream);
     }
     if let Some([rate, depth]) = plan.fade {
         let lost = depth * (0.5 - 0.5 * turned(rate * seconds).real);
@@ -206,6 +205,15 @@ fn sample(
         value.imaginary = -value.imaginary;
     }
     finished(plan, value.times(turned(plan.offset * seconds)))
+}
+
+fn direct_and_echo(plan: &Plan, time: f64, stream: &Stream) -> Complex64 {
+    let direct = stream.at(time);
+    let Some([delay, gain, turn]) = plan.echo else {
+        return direct;
+    };
+    let late = stream.at(time - delay).scaled(gain);
+    direct.plus(late.times(turned(turn)))
 }
 
 /// The level and the limits of the file.

@@ -15,7 +15,8 @@ SAMPLES is a sample file of document 01, STATE a dumped state, LIST a list of in
       --rate HZ (48000)  --offset HZ (0)  --samples N (48000)  --seed N (1)  --profile P (0)
       --amplitude A (0.5)  --huge (1e30)  --tiny (1e-30)  --clip LEVEL
       --noise DEVIATION  --drift PPM  --echo SYMBOLS,GAIN,TURN  --fade HZ,DEPTH
-      --neighbour HZ,GAIN,SAMPLES (off from then on)  --sent FILE (the sent dibits, a line each)
+      --neighbour HZ,GAIN,SAMPLES (off from then on)  --onset SAMPLES (the signal is on from then on)
+      --sent FILE (the sent dibits, a line each)
 
   trace STAGE [--profile P | --state STATE] < SAMPLES
       a line per value of the stage: its name, then bit patterns in hex and whole numbers, a
@@ -77,8 +78,13 @@ const AFTER_STAGES: &str = "
   script answers < LIST
       a line per setup, block and read: refusal and count, digest of the answer and of what was lent,
       digest of the state
+  story < SAMPLES
+      a neighbour that goes off, silence, a weak channel: the dibits, and what is left of the neighbour
+      (src/story.rs says of which signal)
   bench < FOUR WORDS
       what bench/run times
+  size RATE
+      the bytes of a receiver: itself, ring, drift tracking, the resampler's taps, the clock's tables
 
   selftest [STATES]
       the oracle's test of itself, on so many random states (400)

@@ -51,6 +51,7 @@ mod script_writer;
 mod selftest;
 mod sequence_list;
 mod state;
+mod story;
 mod table;
 mod tables;
 mod taps;
@@ -97,7 +98,9 @@ fn run(words: &[&str]) -> Outcome {
         ["resampler", rest @ ..] => resampler_list::run(rest),
         ["taps", rest @ ..] => taps::run(rest),
         ["bench"] => bench::run(),
+        ["size", rate] => bench::size(rate),
         ["script", rest @ ..] => script_writer::run(rest),
+        ["story"] => story::run(),
         ["selftest", rest @ ..] => selftest::run(rest),
         _ => Err("no such subcommand; oracle/run help lists them".into()),
     }

@@ -2,7 +2,7 @@
 
 use crate::options::Options;
 
-const NAMES: [&str; 15] = [
+const NAMES: [&str; 16] = [
     "rate",
     "offset",
     "samples",
@@ -13,6 +13,7 @@ const NAMES: [&str; 15] = [
     "echo",
     "fade",
     "neighbour",
+    "onset",
     "drift",
     "clip",
     "huge",
@@ -40,6 +41,8 @@ pub struct Plan {
     pub fade: Option<[f64; 2]>,
     /// Distance in Hz, gain, and the sample from which it is off.
     pub neighbour: Option<[f64; 3]>,
+    /// The sample from which the signal itself is on: until then there is the neighbour and noise.
+    pub onset: usize,
     /// The sender's clock is fast by this many parts in a million.
     pub drift: f64,
     /// The largest size of a part.
@@ -59,6 +62,7 @@ impl Default for Plan {
             echo: None,
             fade: None,
             neighbour: None,
+            onset: 0,
             drift: 0.0,
             clip: None,
         }
@@ -100,6 +104,7 @@ impl Plan {
             echo: options.numbers("echo", 3)?.map(|v| [v[0], v[1], v[2]]),
             fade: options.numbers("fade", 2)?.map(|v| [v[0], v[1]]),
             neighbour: options.numbers("neighbour", 3)?.map(|v| [v[0], v[1], v[2]]),
+            onset: options.number("onset", usual.onset)?,
             drift: options.number("drift", usual.drift)?,
             clip,
         };

@@ -395,6 +395,10 @@ fn random_plan(random: &mut Random, seed: u64) -> Plan {
     if unit() < 0.3 {
         let until = unit() * plan.samples as f64;
         plan.neighbour = Some([(2.0 * unit() - 1.0) * room, 1000.0 * unit(), until]);
+        if unit() < 0.5 {
+            // silence after it, and then the weak signal
+            plan.onset = (until + 3000.0 * unit()) as usize;
+        }
     }
     if unit() < 0.3 {
         plan.drift = 200.0 * (2.0 * unit() - 1.0);

@@ -96,6 +96,19 @@ pub fn any(s: u64) -> f32 {
     float32((s % 0x1_0000_0000) as u32)
 }
 
+// A part of a sample, of a kind: moderate, large, huge, any pattern.
+pub fn sample_part(s: u64, kind: u64) -> f32 {
+    if kind == 0 {
+        unit(s)
+    } else if kind == 1 {
+        unit(s) * 1000000.0
+    } else if kind == 2 {
+        unit(s) * 1.0e30
+    } else {
+        any(s)
+    }
+}
+
 // NaN, infinities, the largest, the smallest, zeros.
 fn special(k: u64) -> f32 {
     if k == 0 {
@@ -158,4 +171,15 @@ pub fn fill(s: u64, kind: u64, plane: &mut [f32]) -> u64
         i += 1;
     }
     seed
+}
+
+// Every float another one, so that a stray write shows.
+pub fn mark(floats: &mut [f32]) {
+    let mut pattern: u32 = 0x4000_0000;
+    let mut i = 0;
+    while i < floats.len() {
+        floats[i] = float32(pattern);
+        pattern = std::num::wrapping_add_u32(pattern, 1);
+        i += 1;
+    }
 }

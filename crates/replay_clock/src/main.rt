@@ -5,28 +5,21 @@ ghost use lib.ListN.{length};
 use clock::Answer;
 use clock::ClockPlace;
 use complex::Complex32;
-use numbers::bits::float32;
+use replay::any;
 use replay::mixed;
 use replay::mixed_flag;
 use replay::mixed_float32;
+use replay::mixed_plane;
 use replay::print_line;
 use replay::word;
 
 // A record: what is done, and two words of operands.
 const RECORD: usize = 24;
 
-fn low_half(a: u64) -> u32 {
-    (a % 0x1_0000_0000) as u32
-}
-
-fn high_half(a: u64) -> u32 {
-    (a / 0x1_0000_0000) as u32
-}
-
 fn sample(b: u64, c: u64) -> Complex32 {
     Complex32 {
-        real: float32(low_half(b)),
-        imaginary: float32(low_half(c)),
+        real: any(b),
+        imaginary: any(c),
     }
 }
 
@@ -36,8 +29,8 @@ fn handed_in(b: u64, c: u64) -> ClockPlace {
         count: (c / 65536 % 65536) as usize,
         position: (c / 0x1_0000_0000 % 65536) as usize,
         warm: c / 0x1_0000_0000_0000 == 1,
-        phase: float32(low_half(b)),
-        rate: float32(high_half(b)),
+        phase: any(b),
+        rate: any(b / 0x1_0000_0000),
     }
 }
 
@@ -49,14 +42,8 @@ fn mixed_place(h: u64, c: ClockPlace) -> u64 {
     mixed_float32(mixed_float32(h4, c.phase), c.rate)
 }
 
-fn mixed_plane(h: u64, values: &[f32; 21]) -> u64 {
-    let mut d = h;
-    let mut k = 0;
-    while k < 21 {
-        d = mixed_float32(d, values[k]);
-        k += 1;
-    }
-    d
+fn mixed_21(h: u64, values: &[f32; 21]) -> u64 {
+    mixed_plane(h, values)
 }
 
 fn came(answer: Answer) -> bool {
@@ -98,8 +85,8 @@ fn stepped<'a>(
     let place = s.place;
     let answer = s.answer;
     let h = mixed_place(mixed_flag(0, came(answer)), place);
-    let values = mixed_plane(mixed_plane(h, &value_real), &value_imaginary);
-    let all = mixed_plane(mixed_plane(values, &derivative_real), &derivative_imaginary);
+    let values = mixed_21(mixed_21(h, &value_real), &value_imaginary);
+    let all = mixed_21(mixed_21(values, &derivative_real), &derivative_imaginary);
     print_line(all, 16);
     place
 }
@@ -120,7 +107,7 @@ fn played<'a>(
         return stepped(place, sample(b, c), taps, derivatives, real, imaginary);
     }
     let next = if a == 1 {
-        clock::update(place, float32(low_half(b)))
+        clock::update(place, any(b))
     } else {
         handed_in(b, c)
     };

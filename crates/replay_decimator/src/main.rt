@@ -10,7 +10,7 @@ use decimator::Delays;
 use decimator::Integrators;
 use decimator::Output;
 use decimator::Sums;
-use numbers::bits::float32;
+use replay::any;
 use replay::mixed;
 use replay::mixed_float32;
 use replay::print_line;
@@ -86,18 +86,10 @@ fn mixed_output(h: u64, o: Output) -> u64 {
     }
 }
 
-fn low_half(a: u64) -> u32 {
-    (a % 0x1_0000_0000) as u32
-}
-
-fn high_half(a: u64) -> u32 {
-    (a / 0x1_0000_0000) as u32
-}
-
 fn sample(a: u64) -> Complex32 {
     Complex32 {
-        real: float32(low_half(a)),
-        imaginary: float32(high_half(a)),
+        real: any(a),
+        imaginary: any(a / 0x1_0000_0000),
     }
 }
 

@@ -13,6 +13,7 @@ use replay::part;
 use sequence::soft::Records;
 use sequence::soft::Slot;
 use sequence::soft::Soft;
+use sequence::step::Detected;
 use sequence::step::DetectorPlace;
 use sequence::walk::Answer;
 use sequence::walk::Previous;
@@ -157,6 +158,17 @@ pub fn made_place(start: Start, s: u64) -> MadePlace
         noise: part(kind, seed, 0.1),
     };
     MadePlace { place, seed }
+}
+
+// The record of the step stored at `write`.
+pub fn stored(records: Records, write: usize, d: Detected) -> Records
+    requires { ⌜ write < 32 ⌝ }
+{
+    let mut r = records;
+    let soft = d.soft;
+    let slot = Slot { soft };
+    r.slots[write] = slot;
+    r
 }
 
 pub fn mixed_point(h: u64, point: Observation) -> u64 {

@@ -4,6 +4,7 @@ ghost use Prim.Native.Nat.{_+_, _*_, _≤_};
 use equalizer::Equalized;
 use numbers::bits::decoded32;
 use replay::mixed_float32;
+use replay::mixed_plane;
 use replay::print_line;
 
 // A record: flags, then six planes of 21 floats, four bytes each.
@@ -23,20 +24,10 @@ fn plane(record: &[u8; 508], from: usize) -> [f32; 21]
     values
 }
 
-fn digest(h: u64, values: &[f32; 21]) -> u64 {
-    let mut d = h;
-    let mut k = 0;
-    while k < 21 {
-        d = mixed_float32(d, values[k]);
-        k += 1;
-    }
-    d
-}
-
 fn told(equalized: Equalized, wr: &[f32; 21], wi: &[f32; 21]) -> u64 {
     let value = equalized.value;
     let h = mixed_float32(mixed_float32(0, value.real), value.imaginary);
-    digest(digest(mixed_float32(h, equalized.timing), wr), wi)
+    mixed_plane(mixed_plane(mixed_float32(h, equalized.timing), wr), wi)
 }
 
 // One step: flag 1 says reliable, flag 2 that the weights are handed in.

@@ -15,14 +15,13 @@ use front::FrontPlace;
 use numbers::bits::float;
 use numbers::compare::is_nan32;
 use oscillator::Oscillator;
-use replay::any;
 use replay::mixed;
 use replay::mixed_float;
 use replay::mixed_float32;
 use replay::mixed_plane;
 use replay::next;
 use replay::print_line;
-use replay::unit;
+use replay::sample_part;
 use replay::word;
 use resampler::pass::Resampler;
 
@@ -59,18 +58,6 @@ fn decoded(head: &[u8]) -> Request
         kind: word(head, 40),
         skipped: (last % 512) as usize,
         blocks: last / 0x1_0000_0000,
-    }
-}
-
-fn sample_part(s: u64, kind: u64) -> f32 {
-    if kind == 0 {
-        unit(s)
-    } else if kind == 1 {
-        unit(s) * 1000000.0
-    } else if kind == 2 {
-        unit(s) * 1.0e30
-    } else {
-        any(s)
     }
 }
 

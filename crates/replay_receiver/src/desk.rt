@@ -8,6 +8,7 @@ use numbers::bits::float;
 use numbers::bits::float32;
 use receiver::refusal::number;
 use receiver::state::Snapshot;
+use replay::mark;
 use replay::mixed;
 use replay::mixed_bytes;
 use replay::mixed_float;
@@ -74,16 +75,6 @@ fn print_answer(refusal: u32, count: u64, answer: u64, words: &[u64; 6757]) {
 
 // ---- patterns in what is lent
 
-fn fill_floats(floats: &mut [f32]) {
-    let mut pattern: u32 = 0x4000_0000;
-    let mut i = 0;
-    while i < floats.len() {
-        floats[i] = float32(pattern);
-        pattern = std::num::wrapping_add_u32(pattern, 1);
-        i += 1;
-    }
-}
-
 fn after(x: u8, last: u8) -> u8 {
     if x < last { x + 1 } else { 0 }
 }
@@ -111,7 +102,7 @@ fn set_up_in(e: Entry, words: &mut [u64; 6757], lent: &mut [f32]) -> u32 {
 }
 
 pub fn set_up(e: Entry, words: &mut [u64; 6757], table: &mut [f32]) {
-    fill_floats(&mut *table);
+    mark(&mut *table);
     let room = e.fourth as usize;
     if room <= table.len() {
         let refusal = set_up_in(e, &mut *words, &mut table[..room]);
@@ -121,7 +112,7 @@ pub fn set_up(e: Entry, words: &mut [u64; 6757], table: &mut [f32]) {
 }
 
 fn read_in(words: &[u64; 6757], lent: &mut [f32]) {
-    fill_floats(&mut *lent);
+    mark(&mut *lent);
     let p = receiver::reading::read(decoded(words), &mut *lent);
     let verdict = p.verdict;
     let refusal = number(verdict);

@@ -9,11 +9,13 @@ use complex::Complex32;
 use decimator::Decimator;
 use decimator::Output;
 use numbers::bits::float;
-use numbers::bits::float32;
 use replay::mixed;
 use replay::mixed_float;
 use replay::mixed_float32;
+use replay::mixed_plane;
+use replay::next;
 use replay::print_line;
+use replay::sample_part;
 use replay::word;
 use resampler::dimensions::Dimensions;
 use resampler::pass::Passed;
@@ -85,19 +87,6 @@ fn fill(handed: u64, reals: &mut [f32; 592], imaginaries: &mut [f32; 592]) {
     }
 }
 
-fn sample_part(s: u64, kind: u64) -> f32 {
-    let unit = std::num::nearest_u32_to_f32((s / 0x100_0000_0000) as u32) / 8388608.0 - 1.0;
-    if kind == 0 {
-        unit
-    } else if kind == 1 {
-        unit * 1000000.0
-    } else if kind == 2 {
-        unit * 1.0e30
-    } else {
-        float32((s % 0x1_0000_0000) as u32)
-    }
-}
-
 // A decimated value, or none, into the resampler.
 fn taken(
     o: Output,
@@ -163,8 +152,8 @@ fn run(
     let mut h: u64 = 0;
     let mut left = q.count;
     while left > 0 && r.index < MOST {
-        let t = mixed(s, 1);
-        s = mixed(t, 1);
+        let t = next(s);
+        s = next(t);
         let z = Complex32 {
             real: sample_part(t, q.kind),
             imaginary: sample_part(s, q.kind),
@@ -196,19 +185,7 @@ fn print_tap(table: &[f32; 18432], place: usize)
     print_line(numbers::bits::pattern32(tap) as u64, 16);
 }
 
-fn table_digest(table: &[f32; 18432], count: usize) -> u64
-    requires { ⌜ count ≤ 18432 ⌝ }
-{
-    let mut h: u64 = 0;
-    let mut i = 0;
-    while i < count {
-        h = mixed_float32(h, table[i]);
-        i += 1;
-    }
-    h
-}
-
-fn print_design(s: Dimensions, step: f64, table: &[f32; 18432])
+fn print_design(s: Dimensions, step: f64, digest: u64, table: &[f32; 18432])
     requires { ⌜ 14 ≤ s .arm ⌝ }
     requires { ⌜ s .arm ≤ 576 ⌝ }
 {
@@ -216,7 +193,7 @@ fn print_design(s: Dimensions, step: f64, table: &[f32; 18432])
     print_line(s.decimation as u64, 16);
     print_line(arm as u64, 16);
     print_float(step);
-    print_line(table_digest(table, 32 * arm), 16);
+    print_line(digest, 16);
     print_tap(table, 0);
     print_tap(table, arm - 1);
     print_tap(table, arm);
@@ -232,7 +209,8 @@ fn answer(q: Request) {
         resampler::design::write_table(s.arm, s.rate, &mut table);
         let r = started(q, s);
         if q.asked == 0 {
-            print_design(s, r.step, &table);
+            let digest = mixed_plane(0, &table[..32 * s.arm]);
+            print_design(s, r.step, digest, &table);
             return;
         }
         let mut reals: [f32; 592] = [0.0; 592];

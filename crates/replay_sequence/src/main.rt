@@ -21,8 +21,8 @@ use replay_detector::mixed_point;
 use replay_detector::mixed_records;
 use replay_detector::shown;
 use replay_detector::started;
+use replay_detector::stored;
 use sequence::soft::Records;
-use sequence::soft::Slot;
 use sequence::step::Detected;
 use sequence::step::DetectorPlace;
 
@@ -39,17 +39,6 @@ fn told(d: Detected) -> u64 {
     let equalized = d.equalized;
     let h = mixed(0, shown(answer));
     mixed_point(mixed_float32(mixed_float32(h, d.phase), d.power), equalized)
-}
-
-// The record of the step stored at `write`.
-fn stored(records: Records, write: usize, d: Detected) -> Records
-    requires { ⌜ write < 32 ⌝ }
-{
-    let mut r = records;
-    let soft = d.soft;
-    let slot = Slot { soft };
-    r.slots[write] = slot;
-    r
 }
 
 fn tell(

@@ -1,50 +1,27 @@
 // Plays a list of pushes and reads from standard input through the constellation view, and writes a
 // line for each: the digest of what it answered, the floats lent to a read included.
 use complex::Complex32;
-use numbers::bits::float32;
+use replay::any;
+use replay::mark;
 use replay::mixed;
 use replay::mixed_float;
 use replay::mixed_float32;
+use replay::mixed_plane;
 use replay::print_line;
 use replay::word;
 use signal::Observation;
 use signal::Reading;
 use signal::ViewPlace;
 
-fn part(a: u64) -> f32 {
-    float32((a % 0x1_0000_0000) as u32)
-}
-
 fn observation(present: bool, b: u64, c: u64) -> Observation {
     if present {
         Observation::Present(Complex32 {
-            real: part(b),
-            imaginary: part(c),
+            real: any(b),
+            imaginary: any(c),
         })
     } else {
         Observation::Absent
     }
-}
-
-// Every float another one, so that a stray write shows.
-fn fill(output: &mut [f32]) {
-    let mut i: usize = 0;
-    let mut pattern: u32 = 0x4000_0000;
-    while i < output.len() {
-        output[i] = float32(pattern);
-        pattern = std::num::wrapping_add_u32(pattern, 1);
-        i += 1;
-    }
-}
-
-fn digest(h: u64, output: &[f32]) -> u64 {
-    let mut d = h;
-    let mut i = 0;
-    while i < output.len() {
-        d = mixed_float32(d, output[i]);
-        i += 1;
-    }
-    d
 }
 
 // A read into the first floats of the buffer.
@@ -71,10 +48,10 @@ fn read(
 
 fn shown(place: ViewPlace, real: &[f32; 1024], imaginary: &[f32; 1024], floats: usize) -> u64 {
     let mut output = [0.0; 4001];
-    fill(&mut output);
+    mark(&mut output);
     let reading = read(place, real, imaginary, floats, &mut output);
     let h = mixed(0, reading.count as u64);
-    digest(mixed_float(h, reading.error), &output)
+    mixed_plane(mixed_float(h, reading.error), &output)
 }
 
 fn pushed(

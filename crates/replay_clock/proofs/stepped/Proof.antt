@@ -30,17 +30,17 @@ mixed-flag-requires c κs = search needs
 mixed-place-requires : tie.Need-mixed-place-requires
 mixed-place-requires c κs = search needs
 
-mixed-plane-requires : tie.Need-mixed-plane-requires
-mixed-plane-requires c κs = search needs
+mixed-21-requires : tie.Need-mixed-21-requires
+mixed-21-requires c κs = search needs
 
-mixed-plane-requires-2 : tie.Need-mixed-plane-requires-2
-mixed-plane-requires-2 c κs = search needs
+mixed-21-requires-2 : tie.Need-mixed-21-requires-2
+mixed-21-requires-2 c κs = search needs
 
-mixed-plane-requires-3 : tie.Need-mixed-plane-requires-3
-mixed-plane-requires-3 c κs = search needs
+mixed-21-requires-3 : tie.Need-mixed-21-requires-3
+mixed-21-requires-3 c κs = search needs
 
-mixed-plane-requires-4 : tie.Need-mixed-plane-requires-4
-mixed-plane-requires-4 c κs = search needs
+mixed-21-requires-4 : tie.Need-mixed-21-requires-4
+mixed-21-requires-4 c κs = search needs
 
 print-line-requires : tie.Need-print-line-requires
 print-line-requires c κs = search needs
@@ -60,9 +60,9 @@ stepped-spec =
     came-requires
     mixed-flag-requires
     mixed-place-requires
-    mixed-plane-requires
-    mixed-plane-requires-2
-    mixed-plane-requires-3
-    mixed-plane-requires-4
+    mixed-21-requires
+    mixed-21-requires-2
+    mixed-21-requires-3
+    mixed-21-requires-4
     print-line-requires
     returns-2)

@@ -1,5 +1,6 @@
 -- `replay_resampler::answer` is safe and ends. Assumes nothing.
 use borrow.Author.Needs.{needs}
+use borrow.Table.Elements.{length-take-le}
 use Rattle.resampler.specs.Ready.{admitted-ready}
 use Rattle.decimator.specs.Decimator.{freshOf}
 use Rattle.decimator.specs.declared.Decimator.{Decimator}
@@ -19,6 +20,18 @@ write-table-requires c κs = search needs
 
 started-requires : tie.Need-started-requires
 started-requires c κs = search needs
+
+mul-table : tie.Need-mul-table
+mul-table c = search needs
+
+array-share-prefix-table : tie.Need-array-share-prefix-table
+array-share-prefix-table c = search needs
+
+slice-aggregate-mixed-plane : tie.Need-slice-aggregate-mixed-plane
+slice-aggregate-mixed-plane c = let a = c .before .before .before .before .before .before .before .before .sized .ensures .1 .arm-high in sym (length-take-le _ _ (search (needs, a)))
+
+mixed-plane-requires : tie.Need-mixed-plane-requires
+mixed-plane-requires c κs = search needs
 
 print-design-requires : tie.Need-print-design-requires
 print-design-requires c κs = search needs
@@ -64,6 +77,10 @@ answer-spec =
     slice-aggregate-write-table
     write-table-requires
     started-requires
+    mul-table
+    array-share-prefix-table
+    slice-aggregate-mixed-plane
+    mixed-plane-requires
     print-design-requires
     returns
     fill-requires

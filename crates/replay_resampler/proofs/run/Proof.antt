@@ -16,11 +16,11 @@ abbrev μ-loop : tie.MeasureT-loop
 loop-holds : tie.Need-loop-holds Inv-loop μ-loop
 loop-holds c = (c .pre .1, c .pre .0)
 
-mixed-requires : tie.Need-mixed-requires Inv-loop μ-loop
-mixed-requires c κs = search needs
+next-requires : tie.Need-next-requires Inv-loop μ-loop
+next-requires c κs = search needs
 
-mixed-requires-2 : tie.Need-mixed-requires-2 Inv-loop μ-loop
-mixed-requires-2 c κs = search needs
+next-requires-2 : tie.Need-next-requires-2 Inv-loop μ-loop
+next-requires-2 c κs = search needs
 
 sample-part-requires : tie.Need-sample-part-requires Inv-loop μ-loop
 sample-part-requires c κs = search needs
@@ -64,8 +64,8 @@ run-spec =
     Inv-loop
     μ-loop
     loop-holds
-    mixed-requires
-    mixed-requires-2
+    next-requires
+    next-requires-2
     sample-part-requires
     sample-part-requires-2
     stepped-requires

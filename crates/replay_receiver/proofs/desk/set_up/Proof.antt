@@ -5,8 +5,8 @@ use borrow.Author.Needs.{needs}
 use Rattle.replay_receiver.proofs.desk.set_up.Statement.{statement}
 use Rattle.replay_receiver.proofs.desk.set_up.Tie as tie
 
-fill-floats-requires : tie.Need-fill-floats-requires
-fill-floats-requires c κs = search needs
+mark-requires : tie.Need-mark-requires
+mark-requires c κs = search needs
 
 slice-relend-prefix-set-up-in : tie.Need-slice-relend-prefix-set-up-in
 slice-relend-prefix-set-up-in c = search needs
@@ -45,7 +45,7 @@ pub set-up-spec : {M : Type 1} → statement M
 set-up-spec =
     tie.close
     (tie.spec
-    fill-floats-requires
+    mark-requires
     slice-relend-prefix-set-up-in
     slice-aggregate-set-up-in
     set-up-in-requires

@@ -1,16 +1,16 @@
--- `replay_signal::fill` is safe and ends: each turn is nearer to the end of the floats. Assumes nothing.
-use Prim.Native.Nat.{_≤_, _-_}
+-- `replay::mark` is safe and ends. Assumes nothing.
+use Prim.Native.Nat.{_-_, _≤_}
 use mathlib.Core.Path.{_≡_}
 use lib.ListN.{length}
 use borrow.Author.Needs.{needs}
-use Rattle.replay_signal.proofs.fill.Statement.{statement}
-use Rattle.replay_signal.proofs.fill.Tie as tie
+use Rattle.replay.proofs.mark.Statement.{statement}
+use Rattle.replay.proofs.mark.Tie as tie
 
 abbrev Inv-loop : tie.InvT-loop
-Inv-loop output₀ i₀ pattern₀ output i pattern = (i ≤ length output₀) × (length output ≡ length output₀)
+Inv-loop floats₀ pattern₀ i₀ floats pattern i = (i ≤ length floats₀) × (length floats ≡ length floats₀)
 
 abbrev μ-loop : tie.MeasureT-loop
-μ-loop output₀ i₀ pattern₀ output i pattern = length output₀ - i
+μ-loop floats₀ pattern₀ i₀ floats pattern i = length floats₀ - i
 
 loop-holds : tie.Need-loop-holds Inv-loop μ-loop
 loop-holds c = (search needs, search needs)
@@ -18,11 +18,11 @@ loop-holds c = (search needs, search needs)
 float32-requires : tie.Need-float32-requires Inv-loop μ-loop
 float32-requires c κs = search needs
 
-mul-output : tie.Need-mul-output Inv-loop μ-loop
-mul-output c = search needs
+mul-floats : tie.Need-mul-floats Inv-loop μ-loop
+mul-floats c = search needs
 
-slice-write-output : tie.Need-slice-write-output Inv-loop μ-loop
-slice-write-output c = search needs
+slice-write-floats : tie.Need-slice-write-floats Inv-loop μ-loop
+slice-write-floats c = search needs
 
 wrapping-add-u32-requires : tie.Need-wrapping-add-u32-requires Inv-loop μ-loop
 wrapping-add-u32-requires c κs = search needs
@@ -42,16 +42,16 @@ same-length c = search needs
 returns : tie.Need-returns Inv-loop μ-loop
 returns c = search needs
 
-pub fill-spec : {M : Type 1} → statement M
-fill-spec =
+pub mark-spec : {M : Type 1} → statement M
+mark-spec =
     tie.close
     (tie.spec
     Inv-loop
     μ-loop
     loop-holds
     float32-requires
-    mul-output
-    slice-write-output
+    mul-floats
+    slice-write-floats
     wrapping-add-u32-requires
     add-i
     loop-less
