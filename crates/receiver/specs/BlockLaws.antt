@@ -126,16 +126,20 @@ run-admitted conjugated r table xs ds rs w k g e =
       table = u .carrier .detector .table;
     })
 
+-- at most two dibits a sample
+run-most : (conjugated : Bool) (r : Receiver) (table xs : List Float) (ds rs : List ℕ) (w : Whole) → Going conjugated table xs (startOf r ds rs) w → w .lent .room .written ≤ length xs
+run-most conjugated r table xs ds rs w g = let n : w .from ≤ length xs / 2 = g .high in let m = g .left .most in omega arith
+
 pub accepted-is : (c : Bool) (r : Receiver) (table xs : List Float) (overload : ℕ) (ds rs : List ℕ) (w : Whole) (s : Snapshot) → ReadyBlock r table xs (length ds) (length rs) → c ≡ conjugates (r .chain .profile)
     → w ≡ wholeOf c table xs (startOf r ds rs) → Going c table xs (startOf r ds rs) w → s ≡ snapshotOf (w .lent .state .place)
     → (outcomeNow (record { verdict = Accepted; count = w .lent .room .written; overload = overload; snapshot = s; receiver = receiverOf (r .total + countOf xs) w }) (w .lent .room .dibits) (w .lent .room .reliabilities)
     ≡ acceptedOf r table xs overload ds rs)
-    × (admittedOf (receiverOf (r .total + countOf xs) w) ≡ true)
+    × ((admittedOf (receiverOf (r .total + countOf xs) w) ≡ true) × (w .lent .room .written ≤ length xs))
 unfolding acceptedOf
 accepted-is c r table xs overload ds rs w s k ce we g se = (
   ap (λ (t : Snapshot). record { number = 0; receiver = receiverOf (r .total + countOf xs) w; count = w .lent .room .written; overload = overload; snapshot = t; dibits = w .lent .room .dibits; reliabilities = w .lent .room .reliabilities }) se
       ∙ ap (endedOf (r .total + countOf xs) overload) (we ∙ ap (λ (b : Bool). wholeOf b table xs (startOf r ds rs)) ce),
-  run-admitted c r table xs ds rs w k g we,
+  (run-admitted c r table xs ds rs w k g we, run-most c r table xs ds rs w g),
 )
 
 -- ---- the call
@@ -177,14 +181,18 @@ take-asks r table xs dibits reliabilities c b je be t =
     ready-block r table xs dibits reliabilities (sym (ap (λ (j : Judged). j .number) je) ∙ eqb-true (numberOf (c .verdict)) 0 (sym be ∙ t))
 
 module _ (r : Receiver) (table xs : List Float) (ds rs : List ℕ) (c : Checked) (b : Bool) (je : judgedNow c ≡ judgedOf r xs (length table) (length ds) (length rs)) (be : b ≡ eqb (numberOf (c .verdict)) 0) where
-  pub take-accepted : (x : Block) (es qs : List ℕ) → b ≡ true → (outcomeNow x es qs ≡ acceptedOf r table xs (c .overload) ds rs) × (admittedOf (x .receiver) ≡ true)
-      → (outcomeNow x es qs ≡ blockOf r table xs ds rs) × (numberOf (x .verdict) ≡ 0 → admittedOf (x .receiver) ≡ true)
+  pub take-accepted : (x : Block) (es qs : List ℕ) → b ≡ true → (outcomeNow x es qs ≡ acceptedOf r table xs (c .overload) ds rs) × ((admittedOf (x .receiver) ≡ true) × (x .count ≤ length xs))
+      → (outcomeNow x es qs ≡ blockOf r table xs ds rs) × ((numberOf (x .verdict) ≡ 0 → admittedOf (x .receiver) ≡ true) × (x .count ≤ length xs))
   unfolding blockOf
-  take-accepted x es qs t h = (rw (← je, ← be, t) (h .0), λ z. h .1)
+  take-accepted x es qs t h = (rw (← je, ← be, t) (h .0), (λ z. h .1 .0, h .1 .1))
 
-  pub take-refused : (x : Block) → b ≡ false → x ≡ refusedBlock (c .verdict) r → (outcomeNow x ds rs ≡ blockOf r table xs ds rs) × (numberOf (x .verdict) ≡ 0 → admittedOf (x .receiver) ≡ true)
+  pub take-refused : (x : Block) → b ≡ false → x ≡ refusedBlock (c .verdict) r
+      → (outcomeNow x ds rs ≡ blockOf r table xs ds rs) × ((numberOf (x .verdict) ≡ 0 → admittedOf (x .receiver) ≡ true) × (x .count ≤ length xs))
   unfolding blockOf
-  take-refused x f e = (rw (← je, ← be, f, e), λ z. absurd (never (sym (ap (λ (x : Block). numberOf (x .verdict)) e) ∙ z)))
+  take-refused x f e = (rw (← je, ← be, f, e), (λ z. absurd (never (sym (ap (λ (x : Block). numberOf (x .verdict)) e) ∙ z)), none (ap (λ (x : Block). x .count) e)))
     where
       never : numberOf (c .verdict) ≡ 0 → ⊥
       never z = true≢false (sym (ap (λ (n : ℕ). eqb n 0) z) ∙ sym be ∙ f)
+
+      none : x .count ≡ 0 → x .count ≤ length xs
+      none z = omega arith

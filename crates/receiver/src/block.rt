@@ -133,6 +133,7 @@ fn accepted(
     requires { ⌜ ReadyBlock r (now table) (now samples) (length (now dibits)) (length (now reliabilities)) ⌝ }
     ensures same { λ x. ⌜ outcomeNow x (now (dibits .exit)) (now (reliabilities .exit)) ≡ acceptedOf r (now (table .entry)) (now (samples .entry)) overload (now (dibits .entry)) (now (reliabilities .entry)) ⌝ }
     ensures kept { λ x. ⌜ admittedOf (x .receiver) ≡ true ⌝ }
+    ensures most { λ x. ⌜ x .count ≤ length (now (samples .entry)) ⌝ }
 {
     let total = r.total + ((samples.len() / 2) as u64);
     let front = r.front;
@@ -238,6 +239,7 @@ pub fn take(
 ) -> Block
     ensures same { λ x. ⌜ outcomeNow x (now (dibits .exit)) (now (reliabilities .exit)) ≡ blockOf r (now (table .entry)) (now (samples .entry)) (now (dibits .entry)) (now (reliabilities .entry)) ⌝ }
     ensures kept { λ x. ⌜ (numberOf (x .verdict) ≡ 0 → admittedOf (x .receiver) ≡ true) ⌝ }
+    ensures most { λ x. ⌜ x .count ≤ length (now (samples .entry)) ⌝ }
 {
     let c = judged(r, samples, table.len(), dibits.len(), reliabilities.len());
     let verdict = c.verdict;
