@@ -4,7 +4,9 @@
 //
 // A read that fails counts as the end of the input. A write that fails ends the run: what was written
 // is a beginning of the answer and lacks its closing lines.
-ghost use Prim.Native.Nat.{_+_, _≤_, _<_};
+ghost use mathlib.Core.Path.{_≡_};
+ghost use Prim.Native.Nat.{_+_, _≤_, _<_, min};
+ghost use Rattle.receive.specs.Standing.{goingOf, standingOf};
 
 mod answer;
 mod report;
@@ -31,7 +33,9 @@ struct Progress {
     overload: u64,
 }
 
-fn is_going(s: Standing) -> bool {
+fn is_going(s: Standing) -> bool
+    ensures { λ r. ⌜ r ≡ goingOf s ⌝ }
+{
     match s {
         Standing::Going => true,
         Standing::Refused(_) => false,
@@ -40,7 +44,9 @@ fn is_going(s: Standing) -> bool {
 }
 
 // After a block of this verdict; a refused one has no lines.
-fn standing_of(verdict: Verdict, written: bool) -> Standing {
+fn standing_of(verdict: Verdict, written: bool) -> Standing
+    ensures { λ r. ⌜ r ≡ standingOf verdict written ⌝ }
+{
     if is_accepted(verdict) {
         if written {
             return Standing::Going;
@@ -53,7 +59,8 @@ fn standing_of(verdict: Verdict, written: bool) -> Standing {
 // Overloads of one block more: 2^22 blocks of fewer than 2^32 each never pass 2^64.
 fn summed(overload: u64, more: u32) -> u64
     requires { ⌜ overload + 4294967296 ≤ 18446744073709551616 ⌝ }
-    ensures { λ r. ⌜ r < overload + 4294967296 ⌝ }
+    ensures same { λ r. ⌜ r ≡ overload + more ⌝ }
+    ensures near { λ r. ⌜ r < overload + 4294967296 ⌝ }
 {
     overload + (more as u64)
 }
@@ -89,11 +96,9 @@ fn block(p: Progress, samples: usize, table: &[f32]) -> Progress
     }
 }
 
+// The next block's samples.
 fn next_of(left: usize) -> usize
-    requires { ⌜ 0 < left ⌝ }
-    ensures most { λ r. ⌜ r ≤ 1024 ⌝ }
-    ensures within { λ r. ⌜ r ≤ left ⌝ }
-    ensures some { λ r. ⌜ 0 < r ⌝ }
+    ensures { λ r. ⌜ r ≡ min left 1024 ⌝ }
 {
     if left < 1024 { left } else { 1024 }
 }
