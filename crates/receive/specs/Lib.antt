@@ -1,3 +1,4 @@
 pub mod Answer
-pub mod Standing
 pub mod Laws
+pub mod Program
+pub mod StepLaws

@@ -27,6 +27,7 @@ pub fn answered(r: Receiver, table: &[f32], bytes: &[u8], samples: usize, text: 
     requires { ⌜ 8 * samples ≤ length (now bytes) ⌝ }
     requires { ⌜ 24 * samples ≤ length (now text) ⌝ }
     ensures same { λ a. ⌜ toldNow a (now (text .exit)) ≡ toldOf r (now (table .entry)) (now (bytes .entry)) samples (now (text .entry)) ⌝ }
+    ensures few { λ a. ⌜ a .overload ≤ samples ⌝ }
     ensures near { λ a. ⌜ a .end ≤ 24 * samples ⌝ }
     ensures kept { λ _. ⌜ length (now (text .exit)) ≡ length (now (text .entry)) ⌝ }
 {

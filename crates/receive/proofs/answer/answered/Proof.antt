@@ -2,7 +2,7 @@
 use Prim.Native.Nat.{_*_, _≤_}
 use mathlib.Core.Path.{sym}
 use lib.Seq.{length-take-le}
-use Rattle.receive.specs.Laws.{answered-is, taken-most, lines-most}
+use Rattle.receive.specs.Laws.{answered-is, taken-most, lines-most, told-few}
 use borrow.Author.Needs.{needs}
 use Rattle.receive.proofs.answer.answered.Statement.{statement}
 use Rattle.receive.proofs.answer.answered.Tie as tie
@@ -44,7 +44,9 @@ same-length : tie.Need-same-length
 same-length c = search needs
 
 returns : tie.Need-returns
-returns c = (answered-is _ _ _ _ _ _ _ (c .before .before .before .before .before .before .before .before .before .take .result) _ _ _ _ (c .before .before .before .before .before .before .before .before .before .before .before .before .before .before .floats2 .ensures) (c .before .before .before .before .before .before .before .before .before .take .ensures .0) (c .before .before .before .lines .ensures .0), (lines-most _ _ _ (taken-most _ _ _ (c .before .before .before .before .before .before .before .before .before .take .ensures .1 .1)) (c .before .before .before .lines .ensures .1 .0), c .before .before .before .lines .ensures .1 .1))
+returns c =
+    let same = answered-is _ _ _ _ _ _ _ (c .before .before .before .before .before .before .before .before .before .take .result) _ _ _ _ (c .before .before .before .before .before .before .before .before .before .before .before .before .before .before .floats2 .ensures) (c .before .before .before .before .before .before .before .before .before .take .ensures .0) (c .before .before .before .lines .ensures .0) in
+    (same, (told-few _ _ _ _ _ _ same, (lines-most _ _ _ (taken-most _ _ _ (c .before .before .before .before .before .before .before .before .before .take .ensures .1 .1)) (c .before .before .before .lines .ensures .1 .0), c .before .before .before .lines .ensures .1 .1)))
 
 pub answered-spec : {M : Type 1} → statement M
 answered-spec =
