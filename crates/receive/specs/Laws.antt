@@ -16,8 +16,8 @@ use Rattle.receiver.specs.declared.state.Snapshot.{Snapshot}
 use Rattle.receiver.specs.declared.block.Block.{Block}
 use Rattle.receiver.specs.State.{snapshotOf, flagOf}
 use Rattle.receiver.specs.Refusal.{numberOf}
-use Rattle.receiver.specs.Samples.{realOf, imaginaryOf, isAbove, overloadTurn, overloadOf}
-use Rattle.receiver.specs.Block.{Outcome, outcomeNow, judgedOf, acceptedOf, refusedOf, blockOf}
+use Rattle.samples.specs.Samples.{realOf, imaginaryOf, isAbove, overloadTurn, overloadOf}
+use Rattle.receiver.specs.Block.{Outcome, outcomeNow, judgedOf, statedOf, acceptedOf, refusedOf, blockOf}
 use Rattle.recording.specs.declared.text.Totals.{Totals}
 use Rattle.recording.specs.Decode.{floatAt, floatsOf}
 use Rattle.recording.specs.Text.{Written, writtenOf, put, linesOf, closingOf}
@@ -81,7 +81,7 @@ outcome-few true x y m h k = h
 outcome-few false x y m h k = k
 
 block-few : (r : Receiver) (table xs : List Float) (ds rs : List ℕ) → blockOf r table xs ds rs .overload ≤ length xs / 2
-unfolding blockOf judgedOf acceptedOf
+unfolding blockOf statedOf acceptedOf
 block-few r table xs ds rs =
     let j = judgedOf r xs (length table) (length ds) (length rs) in
     outcome-few (eqb (j .number) 0) (acceptedOf r table xs (j .overload) ds rs) (refusedOf (j .number) r ds rs) (length xs / 2) (judged-few (eqb (j .number) 0) xs) (omega arith)
