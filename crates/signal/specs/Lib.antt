@@ -1,3 +1,7 @@
 pub mod Signal
+pub mod Plain
+pub mod Powers
 pub mod Loops
+pub mod Quotients
+pub mod Windows
 pub mod Laws

@@ -1,71 +1,34 @@
 -- `signal::power_sum` meets its contract. Assumes nothing.
-use Prim.Native.Nat.{_≤_, _-_}
-use mathlib.Core.Path.{_≡_, _∙_}
-use lib.Ieee.{binary64, ofBits}
-use Rattle.laws.specs.Turns.{turns, turns-start, turns-more, turns-end}
-use Rattle.signal.specs.Signal.{power64}
-use Rattle.signal.specs.Loops.{sumTurn, summed-from}
+use Rattle.signal.specs.Windows.{power-runs}
 use borrow.Author.Needs.{needs}
 use Rattle.signal.proofs.power_sum.Statement.{statement}
 use Rattle.signal.proofs.power_sum.Tie as tie
 
-abbrev Inv-loop : tie.InvT-loop
-Inv-loop real imaginary start count sum₀ i₀ sum i = (i ≤ count) × (sum ≡ turns (sumTurn real imaginary start power64) i (ofBits binary64 0))
+sub-least : tie.Need-sub-least
+sub-least c = search needs
 
-abbrev μ-loop : tie.MeasureT-loop
-μ-loop real imaginary start count sum₀ i₀ sum i = count - i
+least-requires : tie.Need-least-requires
+least-requires c κs = search needs
 
-loop-holds : tie.Need-loop-holds Inv-loop μ-loop
-loop-holds c = (search needs, turns-start _ _)
+power-run-requires : tie.Need-power-run-requires
+power-run-requires c κs = search needs
 
-add-at : tie.Need-add-at Inv-loop μ-loop
-add-at c = search needs
+sub-power-run : tie.Need-sub-power-run
+sub-power-run c = search needs
 
-mul-widen : tie.Need-mul-widen Inv-loop μ-loop
-mul-widen c = search needs
+power-run-requires-2 : tie.Need-power-run-requires-2
+power-run-requires-2 c κs = search needs
 
-element-copy-out-widen : tie.Need-element-copy-out-widen Inv-loop μ-loop
-element-copy-out-widen c = search needs
-
-widen-requires : tie.Need-widen-requires Inv-loop μ-loop
-widen-requires c κs = search needs
-
-mul-widen-2 : tie.Need-mul-widen-2 Inv-loop μ-loop
-mul-widen-2 c = search needs
-
-element-copy-out-widen-2 : tie.Need-element-copy-out-widen-2 Inv-loop μ-loop
-element-copy-out-widen-2 c = search needs
-
-widen-requires-2 : tie.Need-widen-requires-2 Inv-loop μ-loop
-widen-requires-2 c κs = search needs
-
-add-i : tie.Need-add-i Inv-loop μ-loop
-add-i c = search needs
-
-loop-less : tie.Need-loop-less Inv-loop μ-loop
-loop-less c = search needs
-
-loop-again : tie.Need-loop-again Inv-loop μ-loop
-loop-again c = (search needs, rw turns-more (cc))
-
-returns : tie.Need-returns Inv-loop μ-loop
-returns c = turns-end _ _ _ _ _ (c .before .loop .inv .1) (search needs) (search needs) ∙ summed-from _ _ _ _ _
+returns : tie.Need-returns
+returns c = let a = c .before .before .before in power-runs (a .args .start) (a .args .count) _ (a .pre .0) (a .pre .1) (c .before .before .least .ensures) _ _ _ _ (c .before .power-run .ensures .0) (c .power-run2 .ensures .0)
 
 pub power-sum-spec : {M : Type 1} → statement M
 power-sum-spec =
     tie.close
     (tie.spec
-    Inv-loop
-    μ-loop
-    loop-holds
-    add-at
-    mul-widen
-    element-copy-out-widen
-    widen-requires
-    mul-widen-2
-    element-copy-out-widen-2
-    widen-requires-2
-    add-i
-    loop-less
-    loop-again
+    sub-least
+    least-requires
+    power-run-requires
+    sub-power-run
+    power-run-requires-2
     returns)

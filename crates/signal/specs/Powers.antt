@@ -1,0 +1,27 @@
+-- The sum of powers, with a count of the parts that are not plain. Definitions only.
+use mathlib.Core.Path.{_≡_}
+use mathlib.Core.List.{List}
+use Prim.Native.Nat.{ℕ, _+_}
+use lib.ListN.{getD}
+use lib.Ieee.{Float, nan, binary64, ofBits, add}
+use Rattle.signal.specs.declared.Power.{Power}
+use Rattle.signal.specs.Signal.{power64, pointsFrom, summed}
+use Rattle.signal.specs.Plain.{rarityOf, PlainRound}
+
+-- one point more
+abbrev pub powerWith : Power → Float → Float → Power
+powerWith w x y = record {
+  sum = add binary64 (w .sum) (power64 (record { real = x; imaginary = y }));
+  rare = w .rare + (rarityOf x + rarityOf y);
+}
+
+abbrev pub noPower : Power
+noPower = record { sum = ofBits binary64 0; rare = 0 }
+
+abbrev pub powerStep : List Float → List Float → ℕ → ℕ → Power → Power
+powerStep re im p k w = powerWith w (getD re p nan) (getD im p nan)
+
+-- the powers of n points from a place on, and that they are plain where none was counted
+pub record PowerOf (re im : List Float) (from n : ℕ) (w : Power) : Type 0 where
+  pub sum : w .sum ≡ summed power64 (pointsFrom re im from n)
+  pub plain : w .rare ≡ 0 → PlainRound re im from n
