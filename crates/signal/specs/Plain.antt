@@ -18,11 +18,19 @@ least = ofBits binary32 562036736
 abbrev pub most : Float
 most = ofBits binary32 1568669696
 
-abbrev pub isPlain : Float → Bool
-isPlain x = ((le least x || le x (neg least)) && (le x most && le (neg most) x)) || eq x (ofBits binary32 0)
+abbrev pub isSized : Float → Bool
+isSized x = (le least x || le x (neg least)) && (le x most && le (neg most) x)
 
+abbrev pub everydayOf : Float → Float
+everydayOf x = cond (isSized x) x (ofBits binary32 0)
+
+-- of such a size, or zero
+abbrev pub isPlain : Float → Bool
+isPlain x = isSized x || eq (ofBits binary32 0) x
+
+-- 1 where the everyday number is another one
 abbrev pub rarityOf : Float → ℕ
-rarityOf x = cond (isPlain x) 0 1
+rarityOf x = cond (eq (everydayOf x) x) 0 1
 
 abbrev pub isCommon : ℕ → Float → Bool
 isCommon rare amplitude = (eqb rare 0 && le (ofBits binary64 4336966441157787648) amplitude) && le amplitude (ofBits binary64 4877398396442247168)

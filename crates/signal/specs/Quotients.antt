@@ -9,13 +9,14 @@ use lib.IntN.{ℤ, pos, negsuc}
 use lib.Dec.{T, leb, eqb, eqb→eq, leb→le, nleb→lt, not-T, lit≤}
 use lib.Pow.{pow-add, pow-pos, pow-mono, pow-lt, shl-lt}
 use borrow.Author.Tests.{le-leb, lt-leb}
-use lib.Ieee.{Float, nan, inf, fin, binary32, binary64, up, down, unlike, round, neg, div, le, eq, isNan, fits, ofBits, toBits, nanBits}
+use lib.Ieee.{Float, nan, inf, fin, binary32, binary64, up, down, unlike, round, neg, mul, div, le, eq, isNan, fits, ofBits, toBits, nanBits}
 use lib.Ieee.Fits.{and-i, and-l, and-r, up-pos, down-pos, round-fits, inf-fits, nan-fits, fits-widens}
 use lib.Ieee.Bits.{ofBits-toBits, ofBits-fits, toBits-lt, nanBits-is, cond-no}
 use lib.Ieee.Exact.{HasValue}
 use lib.Ieee.Scale.{finite}
+use denote.Floats.{passes}
 use lib.Ieee.Positive.{num, den, first-pos}
-use Rattle.laws.specs.FloatOrder.{or-split, le→, between-finite, nonneg, le→cross}
+use Rattle.laws.specs.FloatOrder.{or-l, or-split, le→, between-finite, nonneg, le→cross}
 use Rattle.laws.specs.FloatRounding.{round-neg, signed, round-signed, round-zero}
 use Rattle.laws.specs.FloatValues.{no-inf, no-nan-fin, round-least, round-most}
 use Rattle.laws.specs.FloatParts.{field, digitsOf, powerOf, finite-field, float-value, bits-value, digits-lt, digits-ge, digits-some}
@@ -23,7 +24,7 @@ use Rattle.laws.specs.FloatPack.{value-unique}
 use Rattle.numbers.specs.Numbers.{absOf, convert}
 use Rattle.numbers.specs.Laws.{abs-pattern, convert-value}
 use Rattle.numbers.proofs.Narrowing.{Everyday, kept, kept-lt, everyday-is}
-use Rattle.signal.specs.Plain.{isPlain, PlainAmplitude, Usual}
+use Rattle.signal.specs.Plain.{isSized, everydayOf, isPlain, rarityOf, PlainAmplitude, Usual}
 
 -- ---- sizes from 2 ^ -60 to 2 ^ 60
 
@@ -71,11 +72,11 @@ module _ (s : Bool) (m : ℕ) (e : ℤ) where
   unfolding neg
   upper-of t u = most-both s (m * up e) (down e) (le→ it high60 tt tt t) (le→ (neg high60) it tt tt u)
 
-  zero-of : T (eq it (fin false 0 (pos 0))) → m ≡ 0
+  zero-of : T (eq (fin false 0 (pos 0)) it) → m ≡ 0
   unfolding eq
-  zero-of t = no-digits m (up e) (up-pos e) (go (m * up e) (down e) (eqb→eq (m * up e * 1) (0 * 1 * down e) (and-l (eqb (m * up e * 1) (0 * 1 * down e)) (Bool·beq s false || eqb (m * up e * 1) 0) t)))
+  zero-of t = no-digits m (up e) (up-pos e) (go (m * up e) (down e) (eqb→eq (0 * 1 * down e) (m * up e * 1) (and-l (eqb (0 * 1 * down e) (m * up e * 1)) (Bool·beq false s || eqb (0 * 1 * down e) 0) t)))
     where
-      go : (M E : ℕ) → M * 1 ≡ 0 * 1 * E → M ≡ 0
+      go : (M E : ℕ) → 0 * 1 * E ≡ M * 1 → M ≡ 0
       go M E h = omega arith
 
   abbrev near : Bool
@@ -94,7 +95,7 @@ module _ (s : Bool) (m : ℕ) (e : ℤ) where
 
   plain-fin : T (isPlain it) → PlainSize it
   unfolding ofBits
-  plain-fin h = ⊎-elim (λ t. inr (sized-of t)) (λ t. inl (zero-of t)) (or-split (near && inside) (eq it (fin false 0 (pos 0))) h)
+  plain-fin h = ⊎-elim (λ t. inr (sized-of t)) (λ t. inl (zero-of t)) (or-split (near && inside) (eq (fin false 0 (pos 0)) it) h)
 
 pub plain-size : (x : Float) → T (isPlain x) → PlainSize x
 unfolding ofBits neg le eq
@@ -110,6 +111,49 @@ plain-number x h = go x (plain-size x h)
     go nan h = absurd h
     go (inf s) h = absurd h
     go (fin s m e) h = no-nan-fin s m e
+
+-- ---- what is taken for a part is a number, and has the part's square where it equals it
+pub everyday-number : (x : Float) → T (not (isNan (everydayOf x)))
+everyday-number x = go (isSized x) (λ t. plain-number x (or-l (isSized x) (eq (ofBits binary32 0) x) t))
+  where
+    go : (b : Bool) → (T b → T (not (isNan x))) → T (not (isNan (cond b x (ofBits binary32 0))))
+    go true h = h tt
+    go false h = unfold ofBits isNan in tt
+
+alike : (s : Bool) → unlike s s ≡ false
+alike true = refl
+alike false = refl
+
+square-fin : (s : Bool) (m : ℕ) (e : ℤ) → m ≡ 0 → mul binary64 (fin false 0 (pos 0)) (fin false 0 (pos 0)) ≡ mul binary64 (fin s m e) (fin s m e)
+unfolding mul
+square-fin s m e z =
+    round-zero binary64 false 1 (pow-pos 0)
+    ∙ sym (ap (λ (t : Bool). round binary64 t (m * up e * (m * up e)) (down e * down e)) (alike s)
+    ∙ ap (λ (n : ℕ). round binary64 false n (down e * down e)) (ap (λ (k : ℕ). k * up e * (m * up e)) z ∙ ap (λ (k : ℕ). k * (m * up e)) (zero-mul (up e)) ∙ zero-mul (m * up e))
+    ∙ round-zero binary64 false (down e * down e) (mul-pos (down-pos e) (down-pos e)))
+
+zero-square : (x : Float) → T (eq (fin false 0 (pos 0)) x) → mul binary64 (fin false 0 (pos 0)) (fin false 0 (pos 0)) ≡ mul binary64 x x
+zero-square nan h = absurd (unfold eq in h)
+zero-square (inf s) h = absurd (unfold eq in h)
+zero-square (fin s m e) h = square-fin s m e (zero-of s m e h)
+
+counted-none : (b : Bool) → _≡_ {A = ℕ} (cond b 0 1) 0 → b ≡ true
+counted-none true h = refl
+counted-none false h = absurd (omega arith)
+
+pub plain-where : (x : Float) → rarityOf x ≡ 0 → isPlain x ≡ true
+plain-where x h = go (isSized x) h
+  where
+    go : (b : Bool) → _≡_ {A = ℕ} (cond (eq (cond b x (ofBits binary32 0)) x) 0 1) 0 → (b || eq (ofBits binary32 0) x) ≡ true
+    go true h = refl
+    go false h = counted-none (eq (ofBits binary32 0) x) h
+
+pub square-where : (x : Float) → rarityOf x ≡ 0 → mul binary64 (everydayOf x) (everydayOf x) ≡ mul binary64 x x
+square-where x h = go (isSized x) h
+  where
+    go : (b : Bool) → _≡_ {A = ℕ} (cond (eq (cond b x (ofBits binary32 0)) x) 0 1) 0 → mul binary64 (cond b x (ofBits binary32 0)) (cond b x (ofBits binary32 0)) ≡ mul binary64 x x
+    go true h = refl
+    go false h = unfold ofBits in zero-square x (passes _ (counted-none (eq (ofBits binary32 0) x) h))
 
 -- ---- an amplitude is above zero too
 pub record Amplitude (s : Bool) (m : ℕ) (e : ℤ) : Type 0 where
@@ -298,8 +342,14 @@ module _ (s : Bool) (m : ℕ) (e : ℤ) (n : ℕ) (d : ℤ) (S : Sized n d) wher
       (le-trans (mul-le-mul (z .upper) (S .lower)) (le-of-eq (swap' 1152921504606846976 (down e) (n * up d)))))
 
 -- a part widens as it is
+pub number-exact : (x : Float) → T (fits binary32 x) → T (not (isNan x)) → T (fits binary64 x && not (isNan x))
+number-exact x F n = and-i (fits binary64 x) (not (isNan x)) (fits-widens x F) n
+
 pub plain-exact : (x : Float) → T (fits binary32 x) → T (isPlain x) → T (fits binary64 x && not (isNan x))
-plain-exact x F h = and-i (fits binary64 x) (not (isNan x)) (fits-widens x F) (plain-number x h)
+plain-exact x F h = number-exact x F (plain-number x h)
+
+pub everyday-exact : (x u : Float) → u ≡ everydayOf x → T (fits binary32 u) → T (fits binary64 u && not (isNan u))
+everyday-exact x u e F = number-exact u F (subst (λ (v : Float). T (not (isNan v))) (sym e) (everyday-number x))
 
 pub usual-quotient : (x a : Float) → T (isPlain x) → PlainAmplitude a → Usual (div binary64 x a)
 usual-quotient x a h k = go x a (plain-size x h) (amplitude-size a k)

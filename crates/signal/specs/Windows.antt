@@ -1,5 +1,5 @@
 -- A read's two runs, up to the ring's end and from its beginning, are one way round the ring. Assumes nothing.
-use mathlib.Core.Path.{_≡_, refl, sym, ap, _∙_, subst}
+use mathlib.Core.Path.{_≡_, refl, sym, ap, ap₂, _∙_, subst}
 use mathlib.Core.Logic.{_⊎_, ⊎-elim}
 use mathlib.Core.List.{List}
 use mathlib.Core.Bool.{Bool, true, false, cond, _&&_}
@@ -7,15 +7,16 @@ use Prim.Native.Nat.{ℕ, zero, suc, _+_, _-_, _*_, _%_, _≤_, _<_, min}
 use native.Mathlib.Omega.{arith}
 use lib.ListN.{length, getD}
 use lib.Dec.{eqb, eqb→eq}
-use lib.Ieee.{Float, nan, binary64, ofBits, add, le}
+use lib.Ieee.{Float, nan, binary64, ofBits, add, le, eq}
 use lib.Ieee.Fits.{and-l, and-r}
 use denote.Floats.{passes}
 use Rattle.laws.specs.Turns.{turns, turns-plus}
 use Rattle.laws.specs.Places.{le-or}
-use Rattle.signal.specs.declared.Power.{Power}
-use Rattle.signal.specs.Signal.{Written, pointsFrom, power64, errorAt, writtenOf}
-use Rattle.signal.specs.Plain.{isPlain, rarityOf, isCommon, PlainAmplitude, PlainRun, PlainRound, sumStep, writeStep, runOf, roundOf}
-use Rattle.signal.specs.Powers.{noPower, powerWith, powerStep, PowerOf}
+use Rattle.signal.specs.declared.plain.Power.{Power}
+use Rattle.signal.specs.Signal.{Written, pointsFrom, summed, power64, errorAt, writtenOf}
+use Rattle.signal.specs.Plain.{everydayOf, isPlain, rarityOf, isCommon, PlainAmplitude, PlainRun, PlainRound, sumStep, writeStep, runOf, roundOf}
+use Rattle.signal.specs.Powers.{noPower, powerWith, powerStep, PowerWhere, PowerOf}
+use Rattle.signal.specs.Quotients.{plain-where, square-where}
 use Rattle.signal.specs.Loops.{nextPoint, sumTurn, summed-from, written-from}
 
 pub turns-same : {A : Type 0} (f g : ℕ → A → A) (n : ℕ) (a : A) → ((k : ℕ) (b : A) → k < n → f k b ≡ g k b) → turns f n a ≡ turns g n a
@@ -69,28 +70,26 @@ module _ (start count first : ℕ) (inside : start < 1024) (most : count ≤ 102
         (is-output ∙ ap (turns (runOf (writeStep re im a) 0 first) (count - first)) is-half ∙ round-runs (writeStep re im a) l)
 
 -- ---- the powers, and what the count says
-pub rarity-le : (x : Float) → rarityOf x ≤ 1
-rarity-le x = go (isPlain x)
-  where
-    go : (b : Bool) → cond b 0 1 ≤ 1
-    go true = omega arith
-    go false = omega arith
+differ-le : (b : Bool) → cond b 0 1 ≤ 1
+differ-le true = omega arith
+differ-le false = omega arith
 
 pub few-more : (v w : Power) (x y : Float) (n : ℕ) → w ≡ powerWith v x y → v .rare ≤ n → w .rare ≤ n + 2
-few-more v w x y n e h = let a = rarity-le x in let b = rarity-le y in let r = ap (λ (p : Power). p .rare) e in omega arith
+few-more v w x y n e h = let a = differ-le (eq (everydayOf x) x) in let b = differ-le (eq (everydayOf y) y) in let r = ap (λ (p : Power). p .rare) e in omega arith
 
-plain-of : (b : Bool) → _≡_ {A = ℕ} (cond b 0 1) 0 → b ≡ true
-plain-of true h = refl
-plain-of false h = absurd (omega arith)
+all-none : (a b c : ℕ) → a + (b + c) ≡ 0 → (a ≡ 0) × (b ≡ 0) × (c ≡ 0)
+all-none a b c h = (omega arith, omega arith, omega arith)
 
 module _ (re im : List Float) (start : ℕ) where
   abbrev powersTo : ℕ → Power
   powersTo n = turns (roundOf (powerStep re im) start) n noPower
 
-  sum-to : (n : ℕ) → powersTo n .sum ≡ turns (sumTurn re im start power64) n (ofBits binary64 0)
+  sum-to : (n : ℕ) → powersTo n .rare ≡ 0 → powersTo n .sum ≡ turns (sumTurn re im start power64) n (ofBits binary64 0)
   unfolding turns
-  sum-to zero = refl
-  sum-to (suc n) = ap (λ (s : Float). add binary64 s (power64 (nextPoint re im start n))) (sum-to n)
+  sum-to zero h = refl
+  sum-to (suc n) h =
+      let z = all-none _ (rarityOf (getD re ((start + n) % 1024) nan)) (rarityOf (getD im ((start + n) % 1024) nan)) h in
+      ap₂ (add binary64) (sum-to n (z .0)) (ap₂ (add binary64) (square-where (getD re ((start + n) % 1024) nan) (z .1)) (square-where (getD im ((start + n) % 1024) nan) (z .2)))
 
   abbrev PlainPoint : ℕ → Type 0
   PlainPoint k = (isPlain (getD re ((start + k) % 1024) nan) ≡ true) × (isPlain (getD im ((start + k) % 1024) nan) ≡ true)
@@ -99,31 +98,36 @@ module _ (re im : List Float) (start : ℕ) where
   unfolding turns
   none-rare zero h k l = absurd (omega arith)
   none-rare (suc n) h k l =
-      let u = rarityOf (getD re ((start + n) % 1024) nan) in
-      let v = rarityOf (getD im ((start + n) % 1024) nan) in
-      let z = all-none (powersTo n .rare) u v h in
-      ⊎-elim (λ m. none-rare n (z .0) k m) (λ e. subst PlainPoint (sym e) (plain-of _ (z .1), plain-of _ (z .2))) (le-or k n (omega arith))
-    where
-      all-none : (a b c : ℕ) → a + (b + c) ≡ 0 → (a ≡ 0) × (b ≡ 0) × (c ≡ 0)
-      all-none a b c h = (omega arith, omega arith, omega arith)
+      let x = getD re ((start + n) % 1024) nan in
+      let y = getD im ((start + n) % 1024) nan in
+      let z = all-none (powersTo n .rare) (rarityOf x) (rarityOf y) h in
+      ⊎-elim (λ m. none-rare n (z .0) k m) (λ e. subst PlainPoint (sym e) (plain-where x (z .1), plain-where y (z .2))) (le-or k n (omega arith))
 
-  pub power-round : (n : ℕ) (w : Power) → w ≡ powersTo n → PowerOf re im start n w
-  power-round n w e = record {
-    sum = ap (λ (p : Power). p .sum) e ∙ sum-to n ∙ summed-from re im start power64 n;
-    plain = λ h. record {
-      real = λ k l. none-rare n (ap (λ (p : Power). p .rare) (sym e) ∙ h) k l .0;
-      imaginary = λ k l. none-rare n (ap (λ (p : Power). p .rare) (sym e) ∙ h) k l .1;
-    };
-  }
+  power-round : (n : ℕ) (w : Power) → w ≡ powersTo n → PowerWhere re im start n w
+  power-round n w e =
+      let none : w .rare ≡ 0 → powersTo n .rare ≡ 0 = λ h. ap (λ (p : Power). p .rare) (sym e) ∙ h in
+      record {
+        sum = λ h. ap (λ (p : Power). p .sum) e ∙ sum-to n (none h) ∙ summed-from re im start power64 n;
+        plain = λ h. record { real = λ k l. none-rare n (none h) k l .0; imaginary = λ k l. none-rare n (none h) k l .1 };
+      }
 
 -- both runs
 module _ (start count first : ℕ) (inside : start < 1024) (most : count ≤ 1024) (is-first : first ≡ min count (1024 - start)) where
   pub power-runs : (re im : List Float) (middle w : Power)
       → middle ≡ turns (runOf (powerStep re im) start 0) first noPower
       → w ≡ turns (runOf (powerStep re im) 0 0) (count - first) middle
-      → PowerOf re im start count w
+      → PowerWhere re im start count w
   power-runs re im middle w is-middle is-last =
       power-round re im start count w (is-last ∙ ap (turns (runOf (powerStep re im) 0 first) (count - first)) is-middle ∙ round-runs start count first inside most is-first (powerStep re im) noPower)
+
+-- either way
+module _ (re im : List Float) (start count : ℕ) (w : Power) where
+  pub power-common : PowerWhere re im start count w → w .rare ≡ 0 → PowerOf re im start count w
+  power-common p h = record { sum = p .sum h; plain = p .plain }
+
+  pub power-rare : (sum : Float) → PowerWhere re im start count w → sum ≡ summed power64 (pointsFrom re im start count)
+      → PowerOf re im start count (record { sum = sum; rare = w .rare })
+  power-rare sum p e = record { sum = e; plain = p .plain }
 
 -- ---- the test of the common case
 pub none-counted : (rare : ℕ) (a : Float) → isCommon rare a ≡ true → rare ≡ 0

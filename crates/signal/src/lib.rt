@@ -3,10 +3,9 @@
 ghost use mathlib.Core.Path.{_≡_};
 ghost use Prim.Native.Nat.{_+_, _*_, _<_, _≤_, min};
 ghost use lib.ListN.{length};
-ghost use Rattle.laws.specs.Turns.{turns};
 ghost use Rattle.signal.specs.Signal.{viewOf, Written, Read, freshPlace, rotatedOf, pairedOf, pushedOf, pointsFrom, power64, summed, meanOf, missedBy, writtenOf, isUsable, readOf};
-ghost use Rattle.signal.specs.Plain.{PlainRound, PlainAmplitude, runOf};
-ghost use Rattle.signal.specs.Powers.{powerWith, powerStep, PowerOf};
+ghost use Rattle.signal.specs.Plain.{PlainRound, PlainAmplitude};
+ghost use Rattle.signal.specs.Powers.{PowerWhere, PowerOf};
 
 mod plain;
 
@@ -16,8 +15,9 @@ use numbers::compare::is_finite;
 use numbers::narrow::narrow;
 use numbers::narrow::widen;
 use numbers::root::sqrt;
+use plain::Power;
 use plain::is_common;
-use plain::rarity;
+use plain::power_run;
 use plain::write_run;
 
 // 1 / sqrt(2), in f32 and in f64.
@@ -115,57 +115,51 @@ pub fn push(
     }
 }
 
-// A sum of powers, and how many parts on the way were not plain.
-struct Power {
-    sum: f64,
-    rare: u32,
-}
-
-fn with_point(power: Power, x: f32, y: f32) -> Power
-    requires { ⌜ power .rare ≤ 4096 ⌝ }
-    ensures { λ r. ⌜ r ≡ powerWith power x y ⌝ }
-{
-    let u = widen(x);
-    let v = widen(y);
-    Power {
-        sum: power.sum + (u * u + v * v),
-        rare: power.rare + (rarity(x) + rarity(y)),
-    }
-}
-
-// The powers of `count` points from the place `from` on, added in that order to the sum before them.
-fn power_run(
-    real: &[f32; 1024],
-    imaginary: &[f32; 1024],
-    from: usize,
-    count: usize,
-    before: Power,
-) -> Power
-    requires { ⌜ from + count ≤ 1024 ⌝ }
-    requires { ⌜ before .rare ≤ 2048 ⌝ }
-    ensures same { λ r. ⌜ r ≡ turns (runOf (powerStep (now (real .entry)) (now (imaginary .entry))) from 0) count before ⌝ }
-    ensures few { λ r. ⌜ r .rare ≤ before .rare + count * 2 ⌝ }
-{
-    let mut power = before;
-    let mut i = 0;
-    while i < count {
-        power = with_point(power, real[from + i], imaginary[from + i]);
-        i += 1;
-    }
-    power
-}
-
-// The powers of `count` points from `start` on, round the ring: up to its end, and then from its
-// beginning.
-fn power_sum(real: &[f32; 1024], imaginary: &[f32; 1024], start: usize, count: usize) -> Power
+// The powers of `count` points from `start` on, added up in that order.
+fn power_points(real: &[f32; 1024], imaginary: &[f32; 1024], start: usize, count: usize) -> f64
     requires { ⌜ start < 1024 ⌝ }
     requires { ⌜ count ≤ 1024 ⌝ }
-    ensures { λ r. ⌜ PowerOf (now (real .entry)) (now (imaginary .entry)) start count r ⌝ }
+    ensures { λ r. ⌜ r ≡ summed power64 (pointsFrom (now (real .entry)) (now (imaginary .entry)) start count) ⌝ }
+{
+    let mut sum = 0.0f64;
+    let mut i = 0;
+    while i < count {
+        let at = (start + i) % 1024;
+        let x = widen(real[at]);
+        let y = widen(imaginary[at]);
+        sum = sum + (x * x + y * y);
+        i += 1;
+    }
+    sum
+}
+
+// The same where every part is plain, and how many are not: up to the ring's end, and then from its
+// beginning.
+fn power_plain(real: &[f32; 1024], imaginary: &[f32; 1024], start: usize, count: usize) -> Power
+    requires { ⌜ start < 1024 ⌝ }
+    requires { ⌜ count ≤ 1024 ⌝ }
+    ensures { λ r. ⌜ PowerWhere (now (real .entry)) (now (imaginary .entry)) start count r ⌝ }
 {
     let first = least(count, 1024 - start);
     let none = Power { sum: 0.0, rare: 0 };
     let early = power_run(real, imaginary, start, first, none);
     power_run(real, imaginary, 0, count - first, early)
+}
+
+// Either way.
+fn power_sum(real: &[f32; 1024], imaginary: &[f32; 1024], start: usize, count: usize) -> Power
+    requires { ⌜ start < 1024 ⌝ }
+    requires { ⌜ count ≤ 1024 ⌝ }
+    ensures { λ r. ⌜ PowerOf (now (real .entry)) (now (imaginary .entry)) start count r ⌝ }
+{
+    let power = power_plain(real, imaginary, start, count);
+    let rare = power.rare;
+    if rare == 0 {
+        power
+    } else {
+        let sum = power_points(real, imaginary, start, count);
+        Power { sum, rare }
+    }
 }
 
 fn mean(sum: f64, count: usize) -> f64

@@ -2,14 +2,15 @@
 // within the f32 range. Then no part is a NaN, a quotient is narrowed by rounding its bits in place,
 // and the loops have no branch, so that a compiler can run them on several points at once.
 ghost use mathlib.Core.Path.{_≡_};
-ghost use mathlib.Core.Bool.{true};
+ghost use mathlib.Core.Bool.{true, cond};
 ghost use Prim.Native.Nat.{_+_, _*_, _<_, _≤_};
-ghost use lib.Ieee.{binary32, binary64, div};
+ghost use lib.Ieee.{binary32, binary64, div, eq};
 ghost use lib.ListN.{length};
 ghost use Rattle.laws.specs.Turns.{turns};
 ghost use Rattle.numbers.specs.Numbers.{absOf, convert};
 ghost use Rattle.signal.specs.Signal.{errorAt};
-ghost use Rattle.signal.specs.Plain.{isPlain, rarityOf, Usual, PlainRun, PlainAmplitude, isCommon, errorOf2, sumStep, writeStep, runOf};
+ghost use Rattle.signal.specs.Plain.{isSized, everydayOf, isPlain, Usual, PlainRun, PlainAmplitude, isCommon, errorOf2, sumStep, writeStep, runOf};
+ghost use Rattle.signal.specs.Powers.{powerWith, powerStep};
 
 // 2 ^ -60 and 2 ^ 60.
 const LEAST: f32 = 8.6736174e-19;
@@ -22,17 +23,67 @@ const MOST_AMPLITUDE: f64 = 1.152921504606847e18;
 
 const IDEAL: f64 = 0.7071067811865476;
 
-fn is_plain(x: f32) -> bool
-    ensures { λ r. ⌜ r ≡ isPlain x ⌝ }
+fn is_sized(x: f32) -> bool
+    ensures { λ r. ⌜ r ≡ isSized x ⌝ }
 {
-    ((x >= LEAST) | (x <= -LEAST)) & ((x <= MOST) & (x >= -MOST)) | (x == 0.0)
+    ((x >= LEAST) | (x <= -LEAST)) & ((x <= MOST) & (x >= -MOST))
 }
 
-// 1 where a part is not plain.
-pub fn rarity(x: f32) -> u32
-    ensures { λ r. ⌜ r ≡ rarityOf x ⌝ }
+// x where its size lies between, and else 0.
+fn everyday(x: f32) -> f32
+    ensures { λ r. ⌜ r ≡ everydayOf x ⌝ }
 {
-    if is_plain(x) { 0 } else { 1 }
+    if is_sized(x) { x } else { 0.0 }
+}
+
+// 1 where two numbers differ.
+fn differing(u: f32, x: f32) -> u32
+    ensures same { λ r. ⌜ r ≡ cond (eq u x) 0 1 ⌝ }
+    ensures few { λ r. ⌜ r ≤ 1 ⌝ }
+{
+    if u == x { 0 } else { 1 }
+}
+
+// A sum of powers, and how many parts on the way were not plain: those were taken for 0.
+pub struct Power {
+    pub sum: f64,
+    pub rare: u32,
+}
+
+fn with_point(power: Power, x: f32, y: f32) -> Power
+    requires { ⌜ power .rare ≤ 4096 ⌝ }
+    ensures { λ r. ⌜ r ≡ powerWith power x y ⌝ }
+{
+    let a = everyday(x);
+    let b = everyday(y);
+    let u = a as f64;
+    let v = b as f64;
+    Power {
+        sum: power.sum + (u * u + v * v),
+        rare: power.rare + (differing(a, x) + differing(b, y)),
+    }
+}
+
+// The powers of `count` points from the place `from` on, added in that order to the sum before them.
+pub fn power_run(
+    real: &[f32; 1024],
+    imaginary: &[f32; 1024],
+    from: usize,
+    count: usize,
+    before: Power,
+) -> Power
+    requires { ⌜ from + count ≤ 1024 ⌝ }
+    requires { ⌜ before .rare ≤ 2048 ⌝ }
+    ensures same { λ r. ⌜ r ≡ turns (runOf (powerStep (now (real .entry)) (now (imaginary .entry))) from 0) count before ⌝ }
+    ensures few { λ r. ⌜ r .rare ≤ before .rare + count * 2 ⌝ }
+{
+    let mut power = before;
+    let mut i = 0;
+    while i < count {
+        power = with_point(power, real[from + i], imaginary[from + i]);
+        i += 1;
+    }
+    power
 }
 
 // Whether nothing rare was counted, and the amplitude is plain too.

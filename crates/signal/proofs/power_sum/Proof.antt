@@ -1,34 +1,20 @@
 -- `signal::power_sum` meets its contract. Assumes nothing.
-use Rattle.signal.specs.Windows.{power-runs}
+use Rattle.signal.specs.Windows.{power-common, power-rare}
 use borrow.Author.Needs.{needs}
 use Rattle.signal.proofs.power_sum.Statement.{statement}
 use Rattle.signal.proofs.power_sum.Tie as tie
 
-sub-least : tie.Need-sub-least
-sub-least c = search needs
+power-plain-requires : tie.Need-power-plain-requires
+power-plain-requires c κs = search needs
 
-least-requires : tie.Need-least-requires
-least-requires c κs = search needs
-
-power-run-requires : tie.Need-power-run-requires
-power-run-requires c κs = search needs
-
-sub-power-run : tie.Need-sub-power-run
-sub-power-run c = search needs
-
-power-run-requires-2 : tie.Need-power-run-requires-2
-power-run-requires-2 c κs = search needs
+power-points-requires : tie.Need-power-points-requires
+power-points-requires c κs = search needs
 
 returns : tie.Need-returns
-returns c = let a = c .before .before .before in power-runs (a .args .start) (a .args .count) _ (a .pre .0) (a .pre .1) (c .before .before .least .ensures) _ _ _ _ (c .before .power-run .ensures .0) (c .power-run2 .ensures .0)
+returns c = power-common _ _ _ _ _ (c .before .power-plain .ensures) (c .if1 .taken)
+
+returns-2 : tie.Need-returns-2
+returns-2 c = power-rare _ _ _ _ _ _ (c .before .before .power-plain .ensures) (c .power-points .ensures)
 
 pub power-sum-spec : {M : Type 1} → statement M
-power-sum-spec =
-    tie.close
-    (tie.spec
-    sub-least
-    least-requires
-    power-run-requires
-    sub-power-run
-    power-run-requires-2
-    returns)
+power-sum-spec = tie.close (tie.spec power-plain-requires power-points-requires returns returns-2)

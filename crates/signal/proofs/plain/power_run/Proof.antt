@@ -1,4 +1,4 @@
--- `signal::power_run` meets its contract. Assumes nothing.
+-- `signal::plain::power_run` meets its contract. Assumes nothing.
 use Prim.Native.Nat.{_+_, _-_, _*_, _≤_}
 use mathlib.Core.Path.{_≡_, refl, _∙_}
 use native.Mathlib.Omega.{arith}
@@ -7,8 +7,8 @@ use Rattle.signal.specs.Plain.{runOf}
 use Rattle.signal.specs.Powers.{powerStep}
 use Rattle.signal.specs.Windows.{few-more}
 use borrow.Author.Needs.{needs}
-use Rattle.signal.proofs.power_run.Statement.{statement}
-use Rattle.signal.proofs.power_run.Tie as tie
+use Rattle.signal.proofs.plain.power_run.Statement.{statement}
+use Rattle.signal.proofs.plain.power_run.Tie as tie
 
 abbrev Inv-loop : tie.InvT-loop
 Inv-loop real imaginary from count power₀ i₀ power i = (i ≤ count) × (power .rare ≤ power₀ .rare + i * 2) × (power ≡ turns (runOf (powerStep real imaginary) from 0) i power₀)
