@@ -56,8 +56,8 @@ pub record PlainRound (re im : List Float) (from n : ℕ) : Type 0 where
   pub imaginary : (k : ℕ) → k < n → isPlain (getD im ((from + k) % 1024) nan) ≡ true
 
 -- the error of a point whose quotients are given
-abbrev pub errorOf2 : Float → Float → Float
-errorOf2 x y = add binary64 (missedBy x) (missedBy y)
+abbrev pub errorFrom : Float → Float → Float
+errorFrom x y = add binary64 (missedBy x) (missedBy y)
 
 -- ---- one turn, at a place of the planes and a place among the points
 module _ (re im : List Float) where

@@ -1,7 +1,7 @@
 -- The sum of powers, with a count of the parts that are not plain. Definitions only.
 use mathlib.Core.Path.{_≡_}
 use mathlib.Core.List.{List}
-use Prim.Native.Nat.{ℕ, _+_}
+use Prim.Native.Nat.{ℕ, _+_, _≤_}
 use lib.ListN.{getD}
 use lib.Ieee.{Float, nan, binary64, ofBits, add}
 use Rattle.signal.specs.declared.plain.Power.{Power}
@@ -12,21 +12,24 @@ use Rattle.signal.specs.Plain.{everydayOf, rarityOf, PlainRound}
 abbrev pub powerWith : Power → Float → Float → Power
 powerWith w x y = record {
   sum = add binary64 (w .sum) (power64 (record { real = everydayOf x; imaginary = everydayOf y }));
-  rare = w .rare + (rarityOf x + rarityOf y);
+  across = w .across + rarityOf x;
+  up = w .up + rarityOf y;
 }
 
 abbrev pub noPower : Power
-noPower = record { sum = ofBits binary64 0; rare = 0 }
+noPower = record { sum = ofBits binary64 0; across = 0; up = 0 }
 
 abbrev pub powerStep : List Float → List Float → ℕ → ℕ → Power → Power
 powerStep re im p k w = powerWith w (getD re p nan) (getD im p nan)
 
 -- the powers of n points from a place on, where no part was counted, and that these are plain then
 pub record PowerWhere (re im : List Float) (from n : ℕ) (w : Power) : Type 0 where
-  pub sum : w .rare ≡ 0 → w .sum ≡ summed power64 (pointsFrom re im from n)
-  pub plain : w .rare ≡ 0 → PlainRound re im from n
+  pub few : w .across + w .up ≤ 4096
+  pub sum : w .across + w .up ≡ 0 → w .sum ≡ summed power64 (pointsFrom re im from n)
+  pub plain : w .across + w .up ≡ 0 → PlainRound re im from n
 
 -- the powers in any case
 pub record PowerOf (re im : List Float) (from n : ℕ) (w : Power) : Type 0 where
+  pub few : w .across + w .up ≤ 4096
   pub sum : w .sum ≡ summed power64 (pointsFrom re im from n)
-  pub plain : w .rare ≡ 0 → PlainRound re im from n
+  pub plain : w .across + w .up ≡ 0 → PlainRound re im from n

@@ -74,60 +74,66 @@ differ-le : (b : Bool) → cond b 0 1 ≤ 1
 differ-le true = omega arith
 differ-le false = omega arith
 
-pub few-more : (v w : Power) (x y : Float) (n : ℕ) → w ≡ powerWith v x y → v .rare ≤ n → w .rare ≤ n + 2
-few-more v w x y n e h = let a = differ-le (eq (everydayOf x) x) in let b = differ-le (eq (everydayOf y) y) in let r = ap (λ (p : Power). p .rare) e in omega arith
+pub few-more : (v w : Power) (x y : Float) (n m : ℕ) → w ≡ powerWith v x y → v .across ≤ n → v .up ≤ m → (w .across ≤ n + 1) × (w .up ≤ m + 1)
+few-more v w x y n m e h k =
+    let a = differ-le (eq (everydayOf x) x) in
+    let b = differ-le (eq (everydayOf y) y) in
+    let r = ap (λ (p : Power). p .across) e in
+    let q = ap (λ (p : Power). p .up) e in
+    (omega arith, omega arith)
 
-all-none : (a b c : ℕ) → a + (b + c) ≡ 0 → (a ≡ 0) × (b ≡ 0) × (c ≡ 0)
-all-none a b c h = (omega arith, omega arith, omega arith)
+all-none : (a d b c : ℕ) → a + b + (d + c) ≡ 0 → (a + d ≡ 0) × (b ≡ 0) × (c ≡ 0)
+all-none a d b c h = (omega arith, omega arith, omega arith)
 
 module _ (re im : List Float) (start : ℕ) where
   abbrev powersTo : ℕ → Power
   powersTo n = turns (roundOf (powerStep re im) start) n noPower
 
-  sum-to : (n : ℕ) → powersTo n .rare ≡ 0 → powersTo n .sum ≡ turns (sumTurn re im start power64) n (ofBits binary64 0)
+  sum-to : (n : ℕ) → powersTo n .across + powersTo n .up ≡ 0 → powersTo n .sum ≡ turns (sumTurn re im start power64) n (ofBits binary64 0)
   unfolding turns
   sum-to zero h = refl
   sum-to (suc n) h =
-      let z = all-none _ (rarityOf (getD re ((start + n) % 1024) nan)) (rarityOf (getD im ((start + n) % 1024) nan)) h in
+      let z = all-none (powersTo n .across) (powersTo n .up) (rarityOf (getD re ((start + n) % 1024) nan)) (rarityOf (getD im ((start + n) % 1024) nan)) h in
       ap₂ (add binary64) (sum-to n (z .0)) (ap₂ (add binary64) (square-where (getD re ((start + n) % 1024) nan) (z .1)) (square-where (getD im ((start + n) % 1024) nan) (z .2)))
 
   abbrev PlainPoint : ℕ → Type 0
   PlainPoint k = (isPlain (getD re ((start + k) % 1024) nan) ≡ true) × (isPlain (getD im ((start + k) % 1024) nan) ≡ true)
 
-  none-rare : (n : ℕ) → powersTo n .rare ≡ 0 → (k : ℕ) → k < n → PlainPoint k
+  none-rare : (n : ℕ) → powersTo n .across + powersTo n .up ≡ 0 → (k : ℕ) → k < n → PlainPoint k
   unfolding turns
   none-rare zero h k l = absurd (omega arith)
   none-rare (suc n) h k l =
       let x = getD re ((start + n) % 1024) nan in
       let y = getD im ((start + n) % 1024) nan in
-      let z = all-none (powersTo n .rare) (rarityOf x) (rarityOf y) h in
+      let z = all-none (powersTo n .across) (powersTo n .up) (rarityOf x) (rarityOf y) h in
       ⊎-elim (λ m. none-rare n (z .0) k m) (λ e. subst PlainPoint (sym e) (plain-where x (z .1), plain-where y (z .2))) (le-or k n (omega arith))
 
-  power-round : (n : ℕ) (w : Power) → w ≡ powersTo n → PowerWhere re im start n w
-  power-round n w e =
-      let none : w .rare ≡ 0 → powersTo n .rare ≡ 0 = λ h. ap (λ (p : Power). p .rare) (sym e) ∙ h in
+  power-round : (n : ℕ) (w : Power) → w .across + w .up ≤ 4096 → w ≡ powersTo n → PowerWhere re im start n w
+  power-round n w few e =
+      let none : w .across + w .up ≡ 0 → powersTo n .across + powersTo n .up ≡ 0 = λ h. ap (λ (p : Power). p .across + p .up) (sym e) ∙ h in
       record {
+        few = few;
         sum = λ h. ap (λ (p : Power). p .sum) e ∙ sum-to n (none h) ∙ summed-from re im start power64 n;
         plain = λ h. record { real = λ k l. none-rare n (none h) k l .0; imaginary = λ k l. none-rare n (none h) k l .1 };
       }
 
 -- both runs
 module _ (start count first : ℕ) (inside : start < 1024) (most : count ≤ 1024) (is-first : first ≡ min count (1024 - start)) where
-  pub power-runs : (re im : List Float) (middle w : Power)
+  pub power-runs : (re im : List Float) (middle w : Power) → w .across + w .up ≤ 4096
       → middle ≡ turns (runOf (powerStep re im) start 0) first noPower
       → w ≡ turns (runOf (powerStep re im) 0 0) (count - first) middle
       → PowerWhere re im start count w
-  power-runs re im middle w is-middle is-last =
-      power-round re im start count w (is-last ∙ ap (turns (runOf (powerStep re im) 0 first) (count - first)) is-middle ∙ round-runs start count first inside most is-first (powerStep re im) noPower)
+  power-runs re im middle w few is-middle is-last =
+      power-round re im start count w few (is-last ∙ ap (turns (runOf (powerStep re im) 0 first) (count - first)) is-middle ∙ round-runs start count first inside most is-first (powerStep re im) noPower)
 
 -- either way
 module _ (re im : List Float) (start count : ℕ) (w : Power) where
-  pub power-common : PowerWhere re im start count w → w .rare ≡ 0 → PowerOf re im start count w
-  power-common p h = record { sum = p .sum h; plain = p .plain }
+  pub power-common : PowerWhere re im start count w → w .across + w .up ≡ 0 → PowerOf re im start count w
+  power-common p h = record { few = p .few; sum = p .sum h; plain = p .plain }
 
   pub power-rare : (sum : Float) → PowerWhere re im start count w → sum ≡ summed power64 (pointsFrom re im start count)
-      → PowerOf re im start count (record { sum = sum; rare = w .rare })
-  power-rare sum p e = record { sum = e; plain = p .plain }
+      → PowerOf re im start count (record { sum = sum; across = w .across; up = w .up })
+  power-rare sum p e = record { few = p .few; sum = e; plain = p .plain }
 
 -- ---- the test of the common case
 pub none-counted : (rare : ℕ) (a : Float) → isCommon rare a ≡ true → rare ≡ 0

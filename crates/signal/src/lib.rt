@@ -141,7 +141,11 @@ fn power_plain(real: &[f32; 1024], imaginary: &[f32; 1024], start: usize, count:
     ensures { λ r. ⌜ PowerWhere (now (real .entry)) (now (imaginary .entry)) start count r ⌝ }
 {
     let first = least(count, 1024 - start);
-    let none = Power { sum: 0.0, rare: 0 };
+    let none = Power {
+        sum: 0.0,
+        across: 0,
+        up: 0,
+    };
     let early = power_run(real, imaginary, start, first, none);
     power_run(real, imaginary, 0, count - first, early)
 }
@@ -153,12 +157,14 @@ fn power_sum(real: &[f32; 1024], imaginary: &[f32; 1024], start: usize, count: u
     ensures { λ r. ⌜ PowerOf (now (real .entry)) (now (imaginary .entry)) start count r ⌝ }
 {
     let power = power_plain(real, imaginary, start, count);
-    let rare = power.rare;
+    let across = power.across;
+    let up = power.up;
+    let rare = across + up;
     if rare == 0 {
         power
     } else {
         let sum = power_points(real, imaginary, start, count);
-        Power { sum, rare }
+        Power { sum, across, up }
     }
 }
 
@@ -289,7 +295,7 @@ pub fn read(
     let count = least(place.count, output.len() / 2);
     let start = (place.head + 1024 - count) % 1024;
     let powers = power_sum(real, imaginary, start, count);
-    let rare = powers.rare;
+    let rare = powers.across + powers.up;
     let power = mean(powers.sum, count);
     if is_usable(count, power) {
         let sum = write(real, imaginary, start, count, sqrt(power), rare, output);

@@ -9,8 +9,9 @@ ghost use lib.ListN.{length};
 ghost use Rattle.laws.specs.Turns.{turns};
 ghost use Rattle.numbers.specs.Numbers.{absOf, convert};
 ghost use Rattle.signal.specs.Signal.{errorAt};
-ghost use Rattle.signal.specs.Plain.{isSized, everydayOf, isPlain, Usual, PlainRun, PlainAmplitude, isCommon, errorOf2, sumStep, writeStep, runOf};
+ghost use Rattle.signal.specs.Plain.{isSized, everydayOf, isPlain, Usual, PlainRun, PlainAmplitude, isCommon, errorFrom, sumStep, writeStep, runOf};
 ghost use Rattle.signal.specs.Powers.{powerWith, powerStep};
+use super::IDEAL;
 
 // 2 ^ -60 and 2 ^ 60.
 const LEAST: f32 = 8.6736174e-19;
@@ -20,8 +21,6 @@ const MOST: f32 = 1.1529215e18;
 const LEAST_AMPLITUDE: f64 = 8.673617379884035e-19;
 
 const MOST_AMPLITUDE: f64 = 1.152921504606847e18;
-
-const IDEAL: f64 = 0.7071067811865476;
 
 fn is_sized(x: f32) -> bool
     ensures { λ r. ⌜ r ≡ isSized x ⌝ }
@@ -44,14 +43,17 @@ fn differing(u: f32, x: f32) -> u32
     if u == x { 0 } else { 1 }
 }
 
-// A sum of powers, and how many parts on the way were not plain: those were taken for 0.
+// A sum of powers, and how many real and imaginary parts on the way were not plain: those were taken
+// for 0. The two counts are apart, as the parts are, so that they go side by side.
 pub struct Power {
     pub sum: f64,
-    pub rare: u32,
+    pub across: u32,
+    pub up: u32,
 }
 
 fn with_point(power: Power, x: f32, y: f32) -> Power
-    requires { ⌜ power .rare ≤ 4096 ⌝ }
+    requires { ⌜ power .across ≤ 2048 ⌝ }
+    requires { ⌜ power .up ≤ 2048 ⌝ }
     ensures { λ r. ⌜ r ≡ powerWith power x y ⌝ }
 {
     let a = everyday(x);
@@ -60,7 +62,8 @@ fn with_point(power: Power, x: f32, y: f32) -> Power
     let v = b as f64;
     Power {
         sum: power.sum + (u * u + v * v),
-        rare: power.rare + (differing(a, x) + differing(b, y)),
+        across: power.across + differing(a, x),
+        up: power.up + differing(b, y),
     }
 }
 
@@ -73,9 +76,11 @@ pub fn power_run(
     before: Power,
 ) -> Power
     requires { ⌜ from + count ≤ 1024 ⌝ }
-    requires { ⌜ before .rare ≤ 2048 ⌝ }
+    requires { ⌜ before .across ≤ 1024 ⌝ }
+    requires { ⌜ before .up ≤ 1024 ⌝ }
     ensures same { λ r. ⌜ r ≡ turns (runOf (powerStep (now (real .entry)) (now (imaginary .entry))) from 0) count before ⌝ }
-    ensures few { λ r. ⌜ r .rare ≤ before .rare + count * 2 ⌝ }
+    ensures few { λ r. ⌜ r .across ≤ before .across + count ⌝ }
+    ensures few_up { λ r. ⌜ r .up ≤ before .up + count ⌝ }
 {
     let mut power = before;
     let mut i = 0;
@@ -125,7 +130,7 @@ fn quotient(x: f32, amplitude: f64) -> f64
 fn error(x: f64, y: f64) -> f64
     requires { ⌜ Usual x ⌝ }
     requires { ⌜ Usual y ⌝ }
-    ensures { λ r. ⌜ r ≡ errorOf2 x y ⌝ }
+    ensures { λ r. ⌜ r ≡ errorFrom x y ⌝ }
 {
     let across = size(x) - IDEAL;
     let up = size(y) - IDEAL;

@@ -20,7 +20,7 @@ power-run-requires-2 : tie.Need-power-run-requires-2
 power-run-requires-2 c κs = search needs
 
 returns : tie.Need-returns
-returns c = let a = c .before .before .before in power-runs (a .args .start) (a .args .count) _ (a .pre .0) (a .pre .1) (c .before .before .least .ensures) _ _ _ _ (c .before .power-run .ensures .0) (c .power-run2 .ensures .0)
+returns c = let a = c .before .before .before in power-runs (a .args .start) (a .args .count) _ (a .pre .0) (a .pre .1) (c .before .before .least .ensures) _ _ _ _ (search needs) (c .before .power-run .ensures .0) (c .power-run2 .ensures .0)
 
 pub power-plain-spec : {M : Type 1} → statement M
 power-plain-spec =

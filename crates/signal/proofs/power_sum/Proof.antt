@@ -7,6 +7,9 @@ use Rattle.signal.proofs.power_sum.Tie as tie
 power-plain-requires : tie.Need-power-plain-requires
 power-plain-requires c κs = search needs
 
+add-rare : tie.Need-add-rare
+add-rare c = search needs
+
 power-points-requires : tie.Need-power-points-requires
 power-points-requires c κs = search needs
 
@@ -17,4 +20,5 @@ returns-2 : tie.Need-returns-2
 returns-2 c = power-rare _ _ _ _ _ _ (c .before .before .power-plain .ensures) (c .power-points .ensures)
 
 pub power-sum-spec : {M : Type 1} → statement M
-power-sum-spec = tie.close (tie.spec power-plain-requires power-points-requires returns returns-2)
+power-sum-spec =
+    tie.close (tie.spec power-plain-requires add-rare power-points-requires returns returns-2)

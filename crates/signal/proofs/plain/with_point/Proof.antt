@@ -19,17 +19,17 @@ float-to-float-v c = everyday-exact _ _ (c .before .before .everyday2 .ensures) 
 differing-requires : tie.Need-differing-requires
 differing-requires c κs = search needs
 
+add-t13 : tie.Need-add-t13
+add-t13 c = search needs
+
 differing-requires-2 : tie.Need-differing-requires-2
 differing-requires-2 c κs = search needs
-
-add-t14 : tie.Need-add-t14
-add-t14 c = search needs
 
 add-t15 : tie.Need-add-t15
 add-t15 c = search needs
 
 returns : tie.Need-returns
-returns c = rw (c .before .differing2 .ensures .0, c .before .before .differing .ensures .0, c .before .before .before .before .before .before .everyday2 .ensures, c .before .before .before .before .before .before .before .everyday .ensures)
+returns c = rw (c .before .differing2 .ensures .0, c .before .before .before .differing .ensures .0, c .before .before .before .before .before .before .before .everyday2 .ensures, c .before .before .before .before .before .before .before .before .everyday .ensures)
 
 pub with-point-spec : {M : Type 1} → statement M
 with-point-spec =
@@ -40,7 +40,7 @@ with-point-spec =
     float-to-float-u
     float-to-float-v
     differing-requires
+    add-t13
     differing-requires-2
-    add-t14
     add-t15
     returns)
