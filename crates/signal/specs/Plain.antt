@@ -6,8 +6,8 @@ use mathlib.Core.Bool.{Bool, true, cond, not, _&&_, _||_}
 use Prim.Native.Nat.{ℕ, _+_, _*_, _%_, _<_, _≤_}
 use lib.Dec.{T, eqb}
 use lib.ListN.{getD, set}
-use lib.Ieee.{Float, nan, binary32, binary64, ofBits, toBits, neg, add, mul, sub, div, le, eq, isNan, fits}
-use Rattle.numbers.specs.Numbers.{absOf, convert}
+use lib.Ieee.{Float, nan, binary32, binary64, ofBits, toBits, neg, add, div, le, eq, isNan, fits}
+use Rattle.numbers.specs.Numbers.{convert}
 use Rattle.complex.specs.declared.Complex32.{Complex32}
 use Rattle.signal.specs.Signal.{pointAt, missedBy}
 

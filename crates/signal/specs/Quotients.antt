@@ -2,21 +2,20 @@
 use mathlib.Core.Path.{_≡_, refl, sym, ap, _∙_, subst}
 use mathlib.Core.Logic.{_⊎_, inl, inr, ⊎-elim}
 use mathlib.Core.Bool.{Bool, true, false, cond, not, _&&_, _||_, Bool·beq, true≢false}
-use Prim.Native.Nat.{ℕ, zero, suc, _+_, _-_, _*_, _/_, _%_, _^_, _≤_, _<_}
-use native.Mathlib.Nat.{le-trans, le-of-eq, lt-irrefl, lt-of-lt-of-le, lt-of-le-of-lt, lt-of-not-le, not-le-of-lt, eq-zero-or-pos, mul-pos, mul-comm, mul-assoc, mul-right-comm, mul-le-mul, mul-le-mul-left, mul-le-mul-right, mul-lt-mul-of-pos-right, le-of-mul-le-mul-right, zero-mul}
+use Prim.Native.Nat.{ℕ, zero, _+_, _-_, _*_, _/_, _%_, _^_, _≤_, _<_}
+use native.Mathlib.Nat.{le-trans, le-of-eq, lt-irrefl, lt-of-lt-of-le, lt-of-le-of-lt, lt-of-not-le, not-le-of-lt, eq-zero-or-pos, mul-pos, mul-comm, mul-assoc, mul-right-comm, mul-le-mul, mul-le-mul-right, mul-lt-mul-of-pos-right, le-of-mul-le-mul-right, zero-mul}
 use native.Mathlib.Omega.{arith}
 use lib.IntN.{ℤ, pos, negsuc}
-use lib.Dec.{T, leb, eqb, eqb→eq, leb→le, nleb→lt, not-T, lit≤}
+use lib.Dec.{T, leb, eqb, eqb→eq, leb→le, nleb→lt, not-T}
 use lib.Pow.{pow-add, pow-pos, pow-mono, pow-lt, shl-lt}
 use borrow.Author.Tests.{le-leb, lt-leb}
 use lib.Ieee.{Float, nan, inf, fin, binary32, binary64, up, down, unlike, round, neg, mul, div, le, eq, isNan, fits, ofBits, toBits, nanBits}
 use lib.Ieee.Fits.{and-i, and-l, and-r, up-pos, down-pos, round-fits, inf-fits, nan-fits, fits-widens}
 use lib.Ieee.Bits.{ofBits-toBits, ofBits-fits, toBits-lt, nanBits-is, cond-no}
 use lib.Ieee.Exact.{HasValue}
-use lib.Ieee.Scale.{finite}
 use denote.Floats.{passes}
-use lib.Ieee.Positive.{num, den, first-pos}
-use Rattle.laws.specs.FloatOrder.{or-l, or-split, le→, between-finite, nonneg, le→cross}
+use lib.Ieee.Positive.{first-pos}
+use Rattle.laws.specs.FloatOrder.{or-l, or-split, le→, between-finite, le→cross}
 use Rattle.laws.specs.FloatRounding.{round-neg, signed, round-signed, round-zero}
 use Rattle.laws.specs.FloatValues.{no-inf, no-nan-fin, round-least, round-most}
 use Rattle.laws.specs.FloatParts.{field, digitsOf, powerOf, finite-field, float-value, bits-value, digits-lt, digits-ge, digits-some}

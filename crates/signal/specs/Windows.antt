@@ -1,6 +1,6 @@
 -- A read's two runs, up to the ring's end and from its beginning, are one way round the ring. Assumes nothing.
 use mathlib.Core.Path.{_≡_, refl, sym, ap, ap₂, _∙_, subst}
-use mathlib.Core.Logic.{_⊎_, ⊎-elim}
+use mathlib.Core.Logic.{⊎-elim}
 use mathlib.Core.List.{List}
 use mathlib.Core.Bool.{Bool, true, false, cond, _&&_}
 use Prim.Native.Nat.{ℕ, zero, suc, _+_, _-_, _*_, _%_, _≤_, _<_, min}
@@ -17,7 +17,7 @@ use Rattle.signal.specs.Signal.{Written, pointsFrom, summed, power64, er
 use Rattle.signal.specs.Plain.{everydayOf, isPlain, rarityOf, isCommon, PlainAmplitude, PlainRun, PlainRound, sumStep, writeStep, runOf, roundOf}
 use Rattle.signal.specs.Powers.{noPower, powerWith, powerStep, PowerWhere, PowerOf}
 use Rattle.signal.specs.Quotients.{plain-where, square-where}
-use Rattle.signal.specs.Loops.{nextPoint, sumTurn, summed-from, written-from}
+use Rattle.signal.specs.Loops.{sumTurn, summed-from, written-from}
 
 pub turns-same : {A : Type 0} (f g : ℕ → A → A) (n : ℕ) (a : A) → ((k : ℕ) (b : A) → k < n → f k b ≡ g k b) → turns f n a ≡ turns g n a
 unfolding turns

@@ -1,6 +1,6 @@
 -- `signal::plain::power_run` meets its contract. Assumes nothing.
-use Prim.Native.Nat.{_+_, _-_, _*_, _≤_}
-use mathlib.Core.Path.{_≡_, refl, _∙_}
+use Prim.Native.Nat.{_+_, _-_, _≤_}
+use mathlib.Core.Path.{_≡_, _∙_}
 use native.Mathlib.Omega.{arith}
 use Rattle.laws.specs.Turns.{turns, turns-start, turns-step, turns-end}
 use Rattle.signal.specs.Plain.{runOf}
