@@ -19,18 +19,22 @@ abbrev pub most : Float
 most = ofBits binary32 1568669696
 
 abbrev pub isSized : Float → Bool
-isSized x = (le least x || le x (neg least)) && (le x most && le (neg most) x)
+isSized x = le least x || le x (neg least)
 
 abbrev pub everydayOf : Float → Float
 everydayOf x = cond (isSized x) x (ofBits binary32 0)
 
--- of such a size, or zero
+-- of a size from 2 ^ -60 to 2 ^ 60, or zero
 abbrev pub isPlain : Float → Bool
-isPlain x = isSized x || eq (ofBits binary32 0) x
+isPlain x = (isSized x && (le x most && le (neg most) x)) || eq (ofBits binary32 0) x
 
 -- 1 where the everyday number is another one
 abbrev pub rarityOf : Float → ℕ
 rarityOf x = cond (eq (everydayOf x) x) 0 1
+
+-- no part was counted, and the sum of powers is at most 2 ^ 100
+abbrev pub isModerate : ℕ → Float → Bool
+isModerate rare sum = eqb rare 0 && le sum (ofBits binary64 5057542381537067008)
 
 abbrev pub isCommon : ℕ → Float → Bool
 isCommon rare amplitude = (eqb rare 0 && le (ofBits binary64 4336966441157787648) amplitude) && le amplitude (ofBits binary64 4877398396442247168)

@@ -11,11 +11,12 @@ use lib.Pow.{pow-add, pow-pos, pow-mono, pow-lt, shl-lt}
 use borrow.Author.Tests.{le-leb, lt-leb}
 use lib.Ieee.{Float, nan, inf, fin, binary32, binary64, up, down, unlike, round, neg, mul, div, le, eq, isNan, fits, ofBits, toBits, nanBits}
 use lib.Ieee.Fits.{and-i, and-l, and-r, up-pos, down-pos, round-fits, inf-fits, nan-fits, fits-widens}
-use lib.Ieee.Bits.{ofBits-toBits, ofBits-fits, toBits-lt, nanBits-is, cond-no}
+use lib.Ieee.Bits.{ofBits-toBits, ofBits-fits, toBits-lt, nanBits-is, is-true, cond-no}
 use lib.Ieee.Exact.{HasValue}
 use denote.Floats.{passes}
 use lib.Ieee.Positive.{first-pos}
-use Rattle.laws.specs.FloatOrder.{or-l, or-split, le→, between-finite, le→cross}
+use Rattle.laws.specs.FloatOrder.{or-split, le→, →le, le-trans', between-finite, le→cross}
+use Rattle.laws.specs.Ring.{lt-or-ge}
 use Rattle.laws.specs.FloatRounding.{round-neg, signed, round-signed, round-zero}
 use Rattle.laws.specs.FloatValues.{no-inf, no-nan-fin, round-least, round-most}
 use Rattle.laws.specs.FloatParts.{field, digitsOf, powerOf, finite-field, float-value, bits-value, digits-lt, digits-ge, digits-some}
@@ -112,8 +113,14 @@ plain-number x h = go x (plain-size x h)
     go (fin s m e) h = no-nan-fin s m e
 
 -- ---- what is taken for a part is a number, and has the part's square where it equals it
+sized-number : (x : Float) → T (isSized x) → T (not (isNan x))
+unfolding ofBits neg le isNan
+sized-number nan h = absurd h
+sized-number (inf s) h = tt
+sized-number (fin s m e) h = tt
+
 pub everyday-number : (x : Float) → T (not (isNan (everydayOf x)))
-everyday-number x = go (isSized x) (λ t. plain-number x (or-l (isSized x) (eq (ofBits binary32 0) x) t))
+everyday-number x = go (isSized x) (sized-number x)
   where
     go : (b : Bool) → (T b → T (not (isNan x))) → T (not (isNan (cond b x (ofBits binary32 0))))
     go true h = h tt
@@ -140,12 +147,83 @@ counted-none : (b : Bool) → _≡_ {A = ℕ} (cond b 0 1) 0 → b ≡ true
 counted-none true h = refl
 counted-none false h = absurd (omega arith)
 
-pub plain-where : (x : Float) → rarityOf x ≡ 0 → isPlain x ≡ true
-plain-where x h = go (isSized x) h
+eq-number : (u x : Float) → T (eq u x) → T (not (isNan x))
+unfolding eq isNan
+eq-number nan x h = absurd h
+eq-number (inf t) nan h = absurd h
+eq-number (inf t) (inf s) h = tt
+eq-number (inf t) (fin s m e) h = tt
+eq-number (fin t n d) nan h = absurd h
+eq-number (fin t n d) (inf s) h = tt
+eq-number (fin t n d) (fin s m e) h = tt
+
+pub number-where : (x : Float) → rarityOf x ≡ 0 → T (not (isNan x))
+number-where x h = eq-number (everydayOf x) x (passes _ (counted-none (eq (everydayOf x) x) h))
+
+-- ---- a square of at most 2 ^ 100 is that of a size of at most 2 ^ 60
+abbrev pub high100 : Float
+high100 = fin false 1 (pos 100)
+
+fits120 : T (fits binary64 (fin false 1 (pos 120)))
+fits120 = unfold fits in tt
+
+wide-square : (M E : ℕ) → 1152921504606846976 * E ≤ M → 2 ^ 120 * (E * E) ≤ M * M * 1
+wide-square M E h = le-trans (le-of-eq (swap M E)) (le-trans (mul-le-mul h h) (le-of-eq (one (M * M))))
   where
-    go : (b : Bool) → _≡_ {A = ℕ} (cond (eq (cond b x (ofBits binary32 0)) x) 0 1) 0 → (b || eq (ofBits binary32 0) x) ≡ true
-    go true h = refl
-    go false h = counted-none (eq (ofBits binary32 0) x) h
+    swap : (M E : ℕ) → 2 ^ 120 * (E * E) ≡ 1152921504606846976 * E * (1152921504606846976 * E)
+    swap M E =
+        mul-assoc 1152921504606846976 1152921504606846976 (E * E)
+        ∙ ap (λ (x : ℕ). 1152921504606846976 * x) (sym (mul-assoc 1152921504606846976 E E) ∙ mul-comm (1152921504606846976 * E) E)
+        ∙ sym (mul-assoc 1152921504606846976 E (1152921504606846976 * E))
+
+    one : (n : ℕ) → n ≡ n * 1
+    one n = omega arith
+
+below-most : (s : Bool) (M E : ℕ) → M ≤ 1152921504606846976 * E → cond s 0 M * 1 + 0 * E ≤ 1152921504606846976 * E + cond s M 0 * 1
+below-most true M E h = omega arith
+below-most false M E h = omega arith
+
+above-most : (s : Bool) (M E : ℕ) → M ≤ 1152921504606846976 * E → 0 * E + cond s M 0 * 1 ≤ cond s 0 M * 1 + 1152921504606846976 * E
+above-most true M E h = omega arith
+above-most false M E h = omega arith
+
+module _ (s : Bool) (m : ℕ) (e : ℤ) where
+  pub square-is : mul binary64 (fin s m e) (fin s m e) ≡ round binary64 false (m * up e * (m * up e)) (down e * down e)
+  unfolding mul
+  square-is = ap (λ (t : Bool). round binary64 t (m * up e * (m * up e)) (down e * down e)) (alike s)
+
+  not-wide : 1152921504606846976 * down e < m * up e → T (le (mul binary64 (fin s m e) (fin s m e)) high100) → ⊥
+  not-wide g h =
+      let r = round binary64 false (m * up e * (m * up e)) (down e * down e) in
+      let v = fin false 1 (pos 120) in
+      let lo = round-least binary64 (m * up e * (m * up e)) (down e * down e) v (mul-pos (down-pos e) (down-pos e)) tt fits120 (wide-square (m * up e) (down e) (omega arith)) in
+      let hi = subst (λ (x : Float). T (le x high100)) square-is h in
+      false-order (le-trans' v r high100 tt (between-finite v r high100 tt tt lo hi) tt lo hi)
+    where
+      false-order : T (le (fin false 1 (pos 120)) (fin false 1 (pos 100))) → ⊥
+      false-order t = unfold le in t
+
+  within-fin : T (le (mul binary64 (fin s m e) (fin s m e)) high100) → T (le (fin s m e) high60 && le (neg high60) (fin s m e))
+  unfolding neg
+  within-fin h =
+      let M = ⊎-elim (λ g. absurd (not-wide g h)) (λ g. g) (lt-or-ge (1152921504606846976 * down e) (m * up e)) in
+      and-i (le (fin s m e) high60) (le (neg high60) (fin s m e))
+      (→le (fin s m e) high60 tt tt (below-most s (m * up e) (down e) M))
+      (→le (neg high60) (fin s m e) tt tt (above-most s (m * up e) (down e) M))
+
+within : (x : Float) → T (not (isNan x)) → T (le (mul binary64 x x) high100) → T (le x high60 && le (neg high60) x)
+within nan n h = absurd (unfold isNan in n)
+within (inf true) n h = absurd (unfold mul le in h)
+within (inf false) n h = absurd (unfold mul le in h)
+within (fin s m e) n h = within-fin s m e h
+
+pub plain-where : (x : Float) → rarityOf x ≡ 0 → T (le (mul binary64 x x) high100) → isPlain x ≡ true
+unfolding ofBits
+plain-where x h k = go (isSized x) h
+  where
+    go : (b : Bool) → _≡_ {A = ℕ} (cond (eq (cond b x (ofBits binary32 0)) x) 0 1) 0 → ((b && (le x high60 && le (neg high60) x)) || eq (ofBits binary32 0) x) ≡ true
+    go true g = ap (λ (t : Bool). t || eq (ofBits binary32 0) x) (is-true (le x high60 && le (neg high60) x) (within x (number-where x h) k))
+    go false g = counted-none (eq (ofBits binary32 0) x) g
 
 pub square-where : (x : Float) → rarityOf x ≡ 0 → mul binary64 (everydayOf x) (everydayOf x) ≡ mul binary64 x x
 square-where x h = go (isSized x) h

@@ -6,17 +6,18 @@ use mathlib.Core.Bool.{Bool, true, false, cond, _&&_}
 use Prim.Native.Nat.{ℕ, zero, suc, _+_, _-_, _*_, _%_, _≤_, _<_, min}
 use native.Mathlib.Omega.{arith}
 use lib.ListN.{length, getD}
-use lib.Dec.{eqb, eqb→eq}
-use lib.Ieee.{Float, nan, binary64, ofBits, add, le, eq}
+use lib.Dec.{T, eqb, eqb→eq}
+use lib.Ieee.{Float, nan, binary64, ofBits, add, mul, le, eq}
 use lib.Ieee.Fits.{and-l, and-r}
 use denote.Floats.{passes}
 use Rattle.laws.specs.Turns.{turns, turns-plus}
 use Rattle.laws.specs.Places.{le-or}
 use Rattle.signal.specs.declared.plain.Power.{Power}
 use Rattle.signal.specs.Signal.{Written, pointsFrom, summed, power64, errorAt, writtenOf}
-use Rattle.signal.specs.Plain.{everydayOf, isPlain, rarityOf, isCommon, PlainAmplitude, PlainRun, PlainRound, sumStep, writeStep, runOf, roundOf}
+use Rattle.signal.specs.Plain.{everydayOf, isPlain, rarityOf, isModerate, isCommon, PlainAmplitude, PlainRun, PlainRound, sumStep, writeStep, runOf, roundOf}
 use Rattle.signal.specs.Powers.{noPower, powerWith, powerStep, PowerWhere, PowerOf}
-use Rattle.signal.specs.Quotients.{plain-where, square-where}
+use Rattle.signal.specs.Quotients.{high100, plain-where, number-where, square-where}
+use Rattle.signal.specs.Bounds.{squares-bounded}
 use Rattle.signal.specs.Loops.{sumTurn, summed-from, written-from}
 
 pub turns-same : {A : Type 0} (f g : ℕ → A → A) (n : ℕ) (a : A) → ((k : ℕ) (b : A) → k < n → f k b ≡ g k b) → turns f n a ≡ turns g n a
@@ -96,25 +97,30 @@ module _ (re im : List Float) (start : ℕ) where
       let z = all-none (powersTo n .across) (powersTo n .up) (rarityOf (getD re ((start + n) % 1024) nan)) (rarityOf (getD im ((start + n) % 1024) nan)) h in
       ap₂ (add binary64) (sum-to n (z .0)) (ap₂ (add binary64) (square-where (getD re ((start + n) % 1024) nan) (z .1)) (square-where (getD im ((start + n) % 1024) nan) (z .2)))
 
-  abbrev PlainPoint : ℕ → Type 0
-  PlainPoint k = (isPlain (getD re ((start + k) % 1024) nan) ≡ true) × (isPlain (getD im ((start + k) % 1024) nan) ≡ true)
+  abbrev NotRare : ℕ → Type 0
+  NotRare k = (rarityOf (getD re ((start + k) % 1024) nan) ≡ 0) × (rarityOf (getD im ((start + k) % 1024) nan) ≡ 0)
 
-  none-rare : (n : ℕ) → powersTo n .across + powersTo n .up ≡ 0 → (k : ℕ) → k < n → PlainPoint k
+  none-rare : (n : ℕ) → powersTo n .across + powersTo n .up ≡ 0 → (k : ℕ) → k < n → NotRare k
   unfolding turns
   none-rare zero h k l = absurd (omega arith)
   none-rare (suc n) h k l =
-      let x = getD re ((start + n) % 1024) nan in
-      let y = getD im ((start + n) % 1024) nan in
-      let z = all-none (powersTo n .across) (powersTo n .up) (rarityOf x) (rarityOf y) h in
-      ⊎-elim (λ m. none-rare n (z .0) k m) (λ e. subst PlainPoint (sym e) (plain-where x (z .1), plain-where y (z .2))) (le-or k n (omega arith))
+      let z = all-none (powersTo n .across) (powersTo n .up) (rarityOf (getD re ((start + n) % 1024) nan)) (rarityOf (getD im ((start + n) % 1024) nan)) h in
+      ⊎-elim (λ m. none-rare n (z .0) k m) (λ e. subst NotRare (sym e) (z .1, z .2)) (le-or k n (omega arith))
 
   power-round : (n : ℕ) (w : Power) → w .across + w .up ≤ 4096 → w ≡ powersTo n → PowerWhere re im start n w
+  unfolding ofBits
   power-round n w few e =
       let none : w .across + w .up ≡ 0 → powersTo n .across + powersTo n .up ≡ 0 = λ h. ap (λ (p : Power). p .across + p .up) (sym e) ∙ h in
+      let same : w .across + w .up ≡ 0 → w .sum ≡ turns (sumTurn re im start power64) n (ofBits binary64 0) = λ h. ap (λ (p : Power). p .sum) e ∙ sum-to n (none h) in
+      let bound : (h : w .across + w .up ≡ 0) → T (le (w .sum) high100) → (k : ℕ) → k < n → (T (le (mul binary64 (getD re ((start + k) % 1024) nan) (getD re ((start + k) % 1024) nan)) high100) × T (le (mul binary64 (getD im ((start + k) % 1024) nan) (getD im ((start + k) % 1024) nan)) high100)) =
+      λ h t. squares-bounded re im start n (λ k l. let r = none-rare n (none h) k l in (number-where _ (r .0), number-where _ (r .1))) (subst (λ (v : Float). T (le v high100)) (same h) t) in
       record {
         few = few;
-        sum = λ h. ap (λ (p : Power). p .sum) e ∙ sum-to n (none h) ∙ summed-from re im start power64 n;
-        plain = λ h. record { real = λ k l. none-rare n (none h) k l .0; imaginary = λ k l. none-rare n (none h) k l .1 };
+        sum = λ h. same h ∙ summed-from re im start power64 n;
+        plain = λ h t. record {
+          real = λ k l. plain-where _ (none-rare n (none h) k l .0) (bound h t k l .0);
+          imaginary = λ k l. plain-where _ (none-rare n (none h) k l .1) (bound h t k l .1);
+        };
       }
 
 -- both runs
@@ -128,12 +134,14 @@ module _ (start count first : ℕ) (inside : start < 1024) (most : count ≤ 102
 
 -- either way
 module _ (re im : List Float) (start count : ℕ) (w : Power) where
-  pub power-common : PowerWhere re im start count w → w .across + w .up ≡ 0 → PowerOf re im start count w
-  power-common p h = record { few = p .few; sum = p .sum h; plain = p .plain }
+  pub power-common : PowerWhere re im start count w → isModerate (w .across + w .up) (w .sum) ≡ true → PowerOf re im start count w
+  power-common p h =
+      let t = passes _ h in
+      let none = eqb→eq (w .across + w .up) 0 (and-l (eqb (w .across + w .up) 0) (le (w .sum) (ofBits binary64 5057542381537067008)) t) in
+      record { few = p .few; sum = p .sum none; plain = λ e. p .plain e (and-r (eqb (w .across + w .up) 0) (le (w .sum) (ofBits binary64 5057542381537067008)) t) }
 
-  pub power-rare : (sum : Float) → PowerWhere re im start count w → sum ≡ summed power64 (pointsFrom re im start count)
-      → PowerOf re im start count (record { sum = sum; across = w .across; up = w .up })
-  power-rare sum p e = record { few = p .few; sum = e; plain = p .plain }
+  pub power-rare : (sum : Float) → sum ≡ summed power64 (pointsFrom re im start count) → PowerOf re im start count (record { sum = sum; across = 1; up = 0 })
+  power-rare sum e = record { few = omega arith; sum = e; plain = λ h. absurd (omega arith) }
 
 -- ---- the test of the common case
 pub none-counted : (rare : ℕ) (a : Float) → isCommon rare a ≡ true → rare ≡ 0

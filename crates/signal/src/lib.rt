@@ -17,6 +17,7 @@ use numbers::narrow::widen;
 use numbers::root::sqrt;
 use plain::Power;
 use plain::is_common;
+use plain::is_moderate;
 use plain::power_run;
 use plain::write_run;
 
@@ -157,14 +158,16 @@ fn power_sum(real: &[f32; 1024], imaginary: &[f32; 1024], start: usize, count: u
     ensures { λ r. ⌜ PowerOf (now (real .entry)) (now (imaginary .entry)) start count r ⌝ }
 {
     let power = power_plain(real, imaginary, start, count);
-    let across = power.across;
-    let up = power.up;
-    let rare = across + up;
-    if rare == 0 {
+    let rare = power.across + power.up;
+    if is_moderate(rare, power.sum) {
         power
     } else {
         let sum = power_points(real, imaginary, start, count);
-        Power { sum, across, up }
+        Power {
+            sum,
+            across: 1,
+            up: 0,
+        }
     }
 }
 

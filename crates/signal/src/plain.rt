@@ -9,14 +9,14 @@ ghost use lib.ListN.{length};
 ghost use Rattle.laws.specs.Turns.{turns};
 ghost use Rattle.numbers.specs.Numbers.{absOf, convert};
 ghost use Rattle.signal.specs.Signal.{errorAt};
-ghost use Rattle.signal.specs.Plain.{isSized, everydayOf, isPlain, Usual, PlainRun, PlainAmplitude, isCommon, errorFrom, sumStep, writeStep, runOf};
+ghost use Rattle.signal.specs.Plain.{isSized, everydayOf, isPlain, Usual, PlainRun, PlainAmplitude, isModerate, isCommon, errorFrom, sumStep, writeStep, runOf};
 ghost use Rattle.signal.specs.Powers.{powerWith, powerStep};
 use super::IDEAL;
 
-// 2 ^ -60 and 2 ^ 60.
+// 2 ^ -60, and of a sum of powers 2 ^ 100: no part of it is above 2 ^ 60 then.
 const LEAST: f32 = 8.6736174e-19;
 
-const MOST: f32 = 1.1529215e18;
+const MOST_SUM: f64 = 1.2676506002282294e30;
 
 const LEAST_AMPLITUDE: f64 = 8.673617379884035e-19;
 
@@ -25,10 +25,10 @@ const MOST_AMPLITUDE: f64 = 1.152921504606847e18;
 fn is_sized(x: f32) -> bool
     ensures { λ r. ⌜ r ≡ isSized x ⌝ }
 {
-    ((x >= LEAST) | (x <= -LEAST)) & ((x <= MOST) & (x >= -MOST))
+    (x >= LEAST) | (x <= -LEAST)
 }
 
-// x where its size lies between, and else 0.
+// x where its size is 2 ^ -60 or more, and else 0.
 fn everyday(x: f32) -> f32
     ensures { λ r. ⌜ r ≡ everydayOf x ⌝ }
 {
@@ -89,6 +89,13 @@ pub fn power_run(
         i += 1;
     }
     power
+}
+
+// Whether nothing rare was counted, and the sum is not too large.
+pub fn is_moderate(rare: u32, sum: f64) -> bool
+    ensures { λ r. ⌜ r ≡ isModerate rare sum ⌝ }
+{
+    (rare == 0) & (sum <= MOST_SUM)
 }
 
 // Whether nothing rare was counted, and the amplitude is plain too.
