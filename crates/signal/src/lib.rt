@@ -4,12 +4,22 @@ ghost use mathlib.Core.Path.{_≡_};
 ghost use Prim.Native.Nat.{_+_, _*_, _<_, _≤_, min};
 ghost use lib.ListN.{length};
 ghost use Rattle.signal.specs.Signal.{viewOf, Written, Read, freshPlace, rotatedOf, pairedOf, pushedOf, pointsFrom, power64, summed, meanOf, missedBy, writtenOf, isUsable, readOf};
+ghost use Rattle.signal.specs.Plain.{PlainRound, PlainAmplitude};
+ghost use Rattle.signal.specs.Powers.{PowerWhere, PowerOf};
+
+mod plain;
+
 use complex::Complex32;
 use numbers::compare::abs;
 use numbers::compare::is_finite;
 use numbers::narrow::narrow;
 use numbers::narrow::widen;
 use numbers::root::sqrt;
+use plain::Power;
+use plain::is_common;
+use plain::is_moderate;
+use plain::power_run;
+use plain::write_run;
 
 // 1 / sqrt(2), in f32 and in f64.
 const ROTATION: f32 = 0.70710677;
@@ -107,7 +117,7 @@ pub fn push(
 }
 
 // The powers of `count` points from `start` on, added up in that order.
-fn power_sum(real: &[f32; 1024], imaginary: &[f32; 1024], start: usize, count: usize) -> f64
+fn power_points(real: &[f32; 1024], imaginary: &[f32; 1024], start: usize, count: usize) -> f64
     requires { ⌜ start < 1024 ⌝ }
     requires { ⌜ count ≤ 1024 ⌝ }
     ensures { λ r. ⌜ r ≡ summed power64 (pointsFrom (now (real .entry)) (now (imaginary .entry)) start count) ⌝ }
@@ -122,6 +132,43 @@ fn power_sum(real: &[f32; 1024], imaginary: &[f32; 1024], start: usize, count: u
         i += 1;
     }
     sum
+}
+
+// The same where every part is plain, and how many are not: up to the ring's end, and then from its
+// beginning.
+fn power_plain(real: &[f32; 1024], imaginary: &[f32; 1024], start: usize, count: usize) -> Power
+    requires { ⌜ start < 1024 ⌝ }
+    requires { ⌜ count ≤ 1024 ⌝ }
+    ensures { λ r. ⌜ PowerWhere (now (real .entry)) (now (imaginary .entry)) start count r ⌝ }
+{
+    let first = least(count, 1024 - start);
+    let none = Power {
+        sum: 0.0,
+        across: 0,
+        up: 0,
+    };
+    let early = power_run(real, imaginary, start, first, none);
+    power_run(real, imaginary, 0, count - first, early)
+}
+
+// Either way.
+fn power_sum(real: &[f32; 1024], imaginary: &[f32; 1024], start: usize, count: usize) -> Power
+    requires { ⌜ start < 1024 ⌝ }
+    requires { ⌜ count ≤ 1024 ⌝ }
+    ensures { λ r. ⌜ PowerOf (now (real .entry)) (now (imaginary .entry)) start count r ⌝ }
+{
+    let power = power_plain(real, imaginary, start, count);
+    let rare = power.across + power.up;
+    if is_moderate(rare, power.sum) {
+        power
+    } else {
+        let sum = power_points(real, imaginary, start, count);
+        Power {
+            sum,
+            across: 1,
+            up: 0,
+        }
+    }
 }
 
 fn mean(sum: f64, count: usize) -> f64
@@ -168,6 +215,68 @@ fn write_points(
     sum
 }
 
+// The same for plain parts and a plain amplitude: up to the ring's end, and then from its beginning.
+fn write_plain(
+    real: &[f32; 1024],
+    imaginary: &[f32; 1024],
+    start: usize,
+    count: usize,
+    amplitude: f64,
+    output: &mut [f32],
+) -> f64
+    requires { ⌜ start < 1024 ⌝ }
+    requires { ⌜ count ≤ 1024 ⌝ }
+    requires { ⌜ count * 2 ≤ length (now output) ⌝ }
+    requires { ⌜ PlainRound (now real) (now imaginary) start count ⌝ }
+    requires { ⌜ PlainAmplitude amplitude ⌝ }
+    ensures { λ r. ⌜ _≡_ {A = Written} (record { errors = r; output = now (output .exit) }) (writtenOf amplitude (pointsFrom (now (real .entry)) (now (imaginary .entry)) start count) (now (output .entry))) ⌝ }
+{
+    let first = least(count, 1024 - start);
+    let early = write_run(
+        real,
+        imaginary,
+        start,
+        0,
+        first,
+        amplitude,
+        &mut *output,
+        0.0,
+    );
+    write_run(
+        real,
+        imaginary,
+        0,
+        first,
+        count - first,
+        amplitude,
+        &mut *output,
+        early,
+    )
+}
+
+// Either way, by how many parts were not plain.
+fn write(
+    real: &[f32; 1024],
+    imaginary: &[f32; 1024],
+    start: usize,
+    count: usize,
+    amplitude: f64,
+    rare: u32,
+    output: &mut [f32],
+) -> f64
+    requires { ⌜ start < 1024 ⌝ }
+    requires { ⌜ count ≤ 1024 ⌝ }
+    requires { ⌜ count * 2 ≤ length (now output) ⌝ }
+    requires { ⌜ (rare ≡ 0 → PlainRound (now real) (now imaginary) start count) ⌝ }
+    ensures { λ r. ⌜ _≡_ {A = Written} (record { errors = r; output = now (output .exit) }) (writtenOf amplitude (pointsFrom (now (real .entry)) (now (imaginary .entry)) start count) (now (output .entry))) ⌝ }
+{
+    if is_common(rare, amplitude) {
+        write_plain(real, imaginary, start, count, amplitude, output)
+    } else {
+        write_points(real, imaginary, start, count, amplitude, output)
+    }
+}
+
 fn is_usable(count: usize, power: f64) -> bool
     ensures { λ r. ⌜ r ≡ isUsable count power ⌝ }
 {
@@ -188,9 +297,11 @@ pub fn read(
 {
     let count = least(place.count, output.len() / 2);
     let start = (place.head + 1024 - count) % 1024;
-    let power = mean(power_sum(real, imaginary, start, count), count);
+    let powers = power_sum(real, imaginary, start, count);
+    let rare = powers.across + powers.up;
+    let power = mean(powers.sum, count);
     if is_usable(count, power) {
-        let sum = write_points(real, imaginary, start, count, sqrt(power), output);
+        let sum = write(real, imaginary, start, count, sqrt(power), rare, output);
         Reading {
             count,
             error: 100.0 * sqrt(mean(sum, count)),

@@ -16,6 +16,9 @@ sub-start c = search needs
 power-sum-requires : tie.Need-power-sum-requires
 power-sum-requires c κs = search needs
 
+add-rare : tie.Need-add-rare
+add-rare c = search needs
+
 mean-requires : tie.Need-mean-requires
 mean-requires c κs = search needs
 
@@ -25,8 +28,8 @@ is-usable-requires c κs = search needs
 sqrt-requires : tie.Need-sqrt-requires
 sqrt-requires c κs = search needs
 
-write-points-requires : tie.Need-write-points-requires
-write-points-requires c κs = search needs
+write-requires : tie.Need-write-requires
+write-requires c κs = (search needs, (search needs, (search needs, c .before .before .before .before .before .before .power-sum .ensures .plain)))
 
 mean-requires-2 : tie.Need-mean-requires-2
 mean-requires-2 c κs = search needs
@@ -38,11 +41,11 @@ same-length : tie.Need-same-length
 same-length c = search needs
 
 returns : tie.Need-returns
-returns c = read-found _ _ _ _ _ _ (c .before .before .before .before .before .before .before .before .before .before .before .before .least .ensures) (c .before .before .before .before .before .before .before .before .before .before .power-sum .ensures) (c .before .before .before .before .before .before .before .before .before .mean .ensures) (c .before .before .before .before .before .before .before .before .is-usable .ensures)
-    _ _ _ _ _ (c .before .before .before .before .before .before .before .if1 .taken) (c .before .before .before .before .before .before .sqrt .ensures) (c .before .before .before .before .write-points .ensures) (c .before .mean2 .ensures) (c .sqrt2 .ensures)
+returns c = read-found _ _ _ _ _ _ (c .before .before .before .before .before .before .before .before .before .before .before .before .before .least .ensures) (c .before .before .before .before .before .before .before .before .before .before .before .power-sum .ensures .sum) (c .before .before .before .before .before .before .before .before .before .mean .ensures) (c .before .before .before .before .before .before .before .before .is-usable .ensures)
+    _ _ _ _ _ (c .before .before .before .before .before .before .before .if1 .taken) (c .before .before .before .before .before .before .sqrt .ensures) (c .before .before .before .before .write .ensures) (c .before .mean2 .ensures) (c .sqrt2 .ensures)
 
 returns-2 : tie.Need-returns-2
-returns-2 c = read-nothing _ _ _ _ _ _ (c .before .before .before .before .before .least .ensures) (c .before .before .before .power-sum .ensures) (c .before .before .mean .ensures) (c .before .is-usable .ensures) (c .if1 .left)
+returns-2 c = read-nothing _ _ _ _ _ _ (c .before .before .before .before .before .before .least .ensures) (c .before .before .before .before .power-sum .ensures .sum) (c .before .before .mean .ensures) (c .before .is-usable .ensures) (c .if1 .left)
 
 pub read-spec : {M : Type 1} → statement M
 read-spec =
@@ -52,10 +55,11 @@ read-spec =
     add-start
     sub-start
     power-sum-requires
+    add-rare
     mean-requires
     is-usable-requires
     sqrt-requires
-    write-points-requires
+    write-requires
     mean-requires-2
     sqrt-requires-2
     same-length

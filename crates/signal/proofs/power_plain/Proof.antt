@@ -1,0 +1,34 @@
+-- `signal::power_plain` meets its contract. Assumes nothing.
+use Rattle.signal.specs.Windows.{power-runs}
+use borrow.Author.Needs.{needs}
+use Rattle.signal.proofs.power_plain.Statement.{statement}
+use Rattle.signal.proofs.power_plain.Tie as tie
+
+sub-least : tie.Need-sub-least
+sub-least c = search needs
+
+least-requires : tie.Need-least-requires
+least-requires c κs = search needs
+
+power-run-requires : tie.Need-power-run-requires
+power-run-requires c κs = search needs
+
+sub-power-run : tie.Need-sub-power-run
+sub-power-run c = search needs
+
+power-run-requires-2 : tie.Need-power-run-requires-2
+power-run-requires-2 c κs = search needs
+
+returns : tie.Need-returns
+returns c = let a = c .before .before .before in power-runs (a .args .start) (a .args .count) _ (a .pre .0) (a .pre .1) (c .before .before .least .ensures) _ _ _ _ (search needs) (c .before .power-run .ensures .0) (c .power-run2 .ensures .0)
+
+pub power-plain-spec : {M : Type 1} → statement M
+power-plain-spec =
+    tie.close
+    (tie.spec
+    sub-least
+    least-requires
+    power-run-requires
+    sub-power-run
+    power-run-requires-2
+    returns)

@@ -1,0 +1,58 @@
+-- `signal::write_plain` meets its contract. Assumes nothing.
+use Rattle.signal.specs.Windows.{plain-early, plain-late, written-runs}
+use borrow.Author.Needs.{needs}
+use Rattle.signal.proofs.write_plain.Statement.{statement}
+use Rattle.signal.proofs.write_plain.Tie as tie
+
+sub-least : tie.Need-sub-least
+sub-least c = search needs
+
+least-requires : tie.Need-least-requires
+least-requires c κs = search needs
+
+write-run-requires : tie.Need-write-run-requires
+write-run-requires c κs =
+    let a = c .before .before .before in
+    let p = a .pre .1 .1 .1 in (
+      search needs,
+      (
+        search needs,
+        (search needs, (plain-early (a .args .start) (a .args .count) _ (a .pre .0) (a .pre .1 .0) (c .before .least .ensures) _ _ (p .0), p .1)),
+      ),
+    )
+
+sub-write-run : tie.Need-sub-write-run
+sub-write-run c = search needs
+
+write-run-requires-2 : tie.Need-write-run-requires-2
+write-run-requires-2 c κs =
+    let a = c .before .before .before .before .before .before .before in
+    let p = a .pre .1 .1 .1 in (
+      search needs,
+      (
+        search needs,
+        (search needs, (plain-late (a .args .start) (a .args .count) _ (a .pre .0) (a .pre .1 .0) (c .before .before .before .before .before .least .ensures) _ _ (p .0), p .1)),
+      ),
+    )
+
+same-length : tie.Need-same-length
+same-length c = search needs
+
+returns : tie.Need-returns
+returns c =
+    let a = c .before .before .before .before .before .before .before .before .before .before in
+    written-runs (a .args .start) (a .args .count) _ (a .pre .0) (a .pre .1 .0) (c .before .before .before .before .before .before .before .before .least .ensures)
+    _ _ _ _ _ _ _ _ (a .pre .1 .1 .0)
+    (c .before .before .before .before .before .before .write-run .ensures .0) (c .before .before .before .before .before .before .write-run .ensures .1) (c .before .before .write-run2 .ensures .0) (c .before .before .write-run2 .ensures .1)
+
+pub write-plain-spec : {M : Type 1} → statement M
+write-plain-spec =
+    tie.close
+    (tie.spec
+    sub-least
+    least-requires
+    write-run-requires
+    sub-write-run
+    write-run-requires-2
+    same-length
+    returns)
