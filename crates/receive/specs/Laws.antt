@@ -1,4 +1,5 @@
--- A block's answer from what decoding, the receiver and the lines give. Assumes nothing.
+-- A block's answer from what decoding, the receiver and the lines give; the closing lines from the snapshot; how much of
+-- each there can be. Assumes nothing.
 use mathlib.Core.Path.{_≡_, refl, sym, ap, _∙_}
 use mathlib.Core.Bool.{Bool, true, false, cond, _||_}
 use mathlib.Core.List.{List, _++_}
@@ -18,7 +19,6 @@ use Rattle.receiver.specs.State.{snapshotOf, flagOf}
 use Rattle.receiver.specs.Refusal.{numberOf}
 use Rattle.samples.specs.Samples.{realOf, imaginaryOf, isAbove, overloadTurn, overloadOf}
 use Rattle.receiver.specs.Block.{Outcome, outcomeNow, judgedOf, statedOf, acceptedOf, refusedOf, blockOf}
-use Rattle.recording.specs.declared.text.Totals.{Totals}
 use Rattle.recording.specs.Decode.{floatAt, floatsOf}
 use Rattle.recording.specs.Text.{Written, writtenOf, put, linesOf, closingOf}
 use Rattle.receive.specs.Answer.{Told, toldNow, toldBy, toldOf, totalsOf}

@@ -53,7 +53,7 @@ fn turned(p: Program, table: &mut [f32]) -> Program
     stopped(q)
 }
 
-// The table has room for 16,384 taps.
+// A turn for each thing that is waited for; the table has room for 16,384 taps.
 fn main() {
     let mut table = [0.0f32; 16384];
     let mut p = started();

@@ -1,5 +1,4 @@
 -- `receive::step::blocked` meets its contract. Assumes nothing.
-use Prim.Native.Nat.{_+_, _*_, _≤_}
 use native.Mathlib.Omega.{arith}
 use Rattle.receive.specs.declared.step.Stage.the-variants.{Samples}
 use Rattle.receive.specs.StepLaws.{samples-cut, samples-on, samples-refused, samples-moves, refused-moves, whole-room}

@@ -1,7 +1,6 @@
 -- `receive::step::stage_of` meets its contract. Assumes nothing.
 use native.Mathlib.Omega.{arith}
 use Rattle.receive.specs.StepLaws.{stage-some, stage-none}
-use borrow.Author.Needs.{needs}
 use Rattle.receive.proofs.step.stage_of.Statement.{statement}
 use Rattle.receive.proofs.step.stage_of.Tie as tie
 
