@@ -7,7 +7,7 @@ use mathlib.Core.List.{List, _++_, foldl, foldl-append}
 use lib.Dec.{T}
 use lib.ListN.{length, getD, set, length-set, length-append}
 use lib.Ieee.{Float, binary64, fits}
-use Rattle.laws.specs.Turns.{turns, turns-foldl}
+use Rattle.laws.specs.Turns.{turns, turns-foldl, turns-same}
 use Rattle.laws.specs.Places.{upto, length-upto, upto-at}
 use Rattle.complex.specs.declared.Complex32.{Complex32}
 use Rattle.oscillator.specs.declared.Oscillator.{Oscillator}
@@ -145,11 +145,6 @@ ran conjugated table xs (suc n) h k room = ran-more conjugated table n h (frontO
 pub over-append : (conjugated : Bool) (table : List Float) (h : Run) (ys zs : List Complex32) → frontOver conjugated table h (ys ++ zs) ≡ frontOver conjugated table (frontOver conjugated table h ys) zs
 unfolding frontOver
 over-append conjugated table h ys zs = rw foldl-append
-
-turns-same : {A : Type 0} (f g : ℕ → A → A) (n : ℕ) (a : A) → ((k : ℕ) (b : A) → k < n → f k b ≡ g k b) → turns f n a ≡ turns g n a
-unfolding turns
-turns-same f g zero a e = refl
-turns-same f g (suc n) a e = ap (f n) (turns-same f g n a (λ k b l. e k b (omega arith))) ∙ e n (turns g n a) (omega arith)
 
 pub front-over : (conjugated : Bool) (table xs : List Float) (none : Complex32) (h : Run) → frontOf conjugated table xs (length xs / 2) h ≡ frontOver conjugated table h (samplesOf xs)
 unfolding frontOf frontOver samplesOf

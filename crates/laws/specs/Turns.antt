@@ -32,6 +32,12 @@ module _ {A : Type 0} where
   pub turns-end : (f : ℕ → A → A) (i n : ℕ) (a b : A) → b ≡ turns f i a → i ≤ n → n ≤ i → b ≡ turns f n a
   turns-end f i n a b h le ge = let e : i ≡ n = omega arith in h ∙ ap (λ (k : ℕ). turns f k a) e
 
+  -- loops whose turns are the same
+  pub turns-same : (f g : ℕ → A → A) (n : ℕ) (a : A) → ((k : ℕ) (b : A) → k < n → f k b ≡ g k b) → turns f n a ≡ turns g n a
+  unfolding turns
+  turns-same f g zero a h = refl
+  turns-same f g (suc n) a h = ap (f n) (turns-same f g n a (λ k b l. h k b (omega arith))) ∙ h n (turns g n a) (omega arith)
+
   -- a loop that ends from inside: at most n turns of f, and none after `stop` holds
   unfoldable pub until : (A → Bool) → (A → A) → ℕ → A → A
   until stop f zero a = a

@@ -7,7 +7,7 @@ use native.Mathlib.Omega.{arith}
 use lib.ListN.{getD, drop}
 use lib.Seq.{getD-take, getD-drop}
 use lib.Ieee.{Float, nan, binary32, add, mul}
-use Rattle.laws.specs.Turns.{turns, turns-plus}
+use Rattle.laws.specs.Turns.{turns, turns-plus, turns-same}
 use Rattle.laws.specs.Places.{upto-at}
 use Rattle.laws.specs.Ring.{start, latest}
 use Rattle.complex.specs.Complex.{zeroPair}
@@ -24,12 +24,6 @@ runTurn real imaginary from table base i s = record {
 
 unfoldable pub runOf : Complex32 → List Float → List Float → ℕ → List Float → ℕ → ℕ → Complex32
 runOf s real imaginary from table base count = turns (runTurn real imaginary from table base) count s
-
--- ---- loops whose turns agree
-pub turns-same : {A : Type 0} (f g : ℕ → A → A) (n : ℕ) (a : A) → ((i : ℕ) → i < n → (s : A) → f i s ≡ g i s) → turns f n a ≡ turns g n a
-unfolding turns
-turns-same f g zero a h = refl
-turns-same f g (suc n) a h = h n (omega arith) (turns f n a) ∙ ap (g n) (turns-same f g n a (λ i l. h i (omega arith)))
 
 module _ (c write : ℕ) (in-ring : write < c + 16) (table real imaginary : List Float) (phase : ℕ) where
   -- the oldest of them, by the code's two cases
@@ -62,7 +56,7 @@ module _ (c write : ℕ) (in-ring : write < c + 16) (table real imaginary : List
       → runOf zeroPair real imaginary (start nan (c + 16) write c) table (phase * c) c ≡ sumOf c (armOf c table phase) (latest nan (c + 16) real write c) (latest nan (c + 16) imaginary write c)
   unfolding runOf sumOf
   one-run h =
-      turns-same _ _ c zeroPair (λ i l s. turn-same i (start nan (c + 16) write c) (phase * c) i l (mod-eq-of-lt (omega arith)) refl s)
+      turns-same _ _ c zeroPair (λ i s l. turn-same i (start nan (c + 16) write c) (phase * c) i l (mod-eq-of-lt (omega arith)) refl s)
 
   pub two-runs : (straight : ℕ) → straight + start nan (c + 16) write c ≡ c + 16 → straight ≤ c
       → runOf (runOf zeroPair real imaginary (start nan (c + 16) write c) table (phase * c) straight) real imaginary 0 table (phase * c + straight) (c - straight)
@@ -72,8 +66,8 @@ module _ (c write : ℕ) (in-ring : write < c + 16) (table real imaginary : List
       let o = start nan (c + 16) write c in
       let f = sumTurn (armOf c table phase) (latest nan (c + 16) real write c) (latest nan (c + 16) imaginary write c) in
       ap (λ (s : Complex32). turns (runTurn real imaginary 0 table (phase * c + straight)) (c - straight) s)
-      (turns-same _ f straight zeroPair (λ i l s. turn-same i o (phase * c) i (omega arith) (mod-eq-of-lt (omega arith)) refl s))
-      ∙ turns-same _ (λ (i : ℕ). f (straight + i)) (c - straight) (turns f straight zeroPair) (λ i l s. turn-same (straight + i) 0 (phase * c + straight) i (omega arith) (ap (λ (k : ℕ). k % (c + 16)) (let g : o + (straight + i) ≡ c + 16 + (0 + i) = omega arith in g) ∙ add-mod-left (c + 16) (0 + i) ∙ mod-eq-of-lt (let g : 0 + i < c + 16 = omega arith in g)) (omega arith) s)
+      (turns-same _ f straight zeroPair (λ i s l. turn-same i o (phase * c) i (omega arith) (mod-eq-of-lt (omega arith)) refl s))
+      ∙ turns-same _ (λ (i : ℕ). f (straight + i)) (c - straight) (turns f straight zeroPair) (λ i s l. turn-same (straight + i) 0 (phase * c + straight) i (omega arith) (ap (λ (k : ℕ). k % (c + 16)) (let g : o + (straight + i) ≡ c + 16 + (0 + i) = omega arith in g) ∙ add-mod-left (c + 16) (0 + i) ∙ mod-eq-of-lt (let g : 0 + i < c + 16 = omega arith in g)) (omega arith) s)
       ∙ turns-plus f straight (c - straight) zeroPair
       ∙ ap (λ (n : ℕ). turns f n zeroPair) (let g : straight + (c - straight) ≡ c = omega arith in g)
 

@@ -10,7 +10,7 @@ use lib.Dec.{T, eqb, eqb→eq}
 use lib.Ieee.{Float, nan, binary64, ofBits, add, mul, le, eq}
 use lib.Ieee.Fits.{and-l, and-r}
 use denote.Floats.{passes}
-use Rattle.laws.specs.Turns.{turns, turns-plus}
+use Rattle.laws.specs.Turns.{turns, turns-plus, turns-same}
 use Rattle.laws.specs.Places.{le-or}
 use Rattle.signal.specs.declared.plain.Power.{Power}
 use Rattle.signal.specs.Signal.{Written, pointsFrom, summed, power64, errorAt, writtenOf}
@@ -19,11 +19,6 @@ use Rattle.signal.specs.Powers.{noPower, powerWith, powerStep, PowerWher
 use Rattle.signal.specs.Quotients.{high100, plain-where, number-where, square-where}
 use Rattle.signal.specs.Bounds.{squares-bounded}
 use Rattle.signal.specs.Loops.{sumTurn, summed-from, written-from}
-
-pub turns-same : {A : Type 0} (f g : ℕ → A → A) (n : ℕ) (a : A) → ((k : ℕ) (b : A) → k < n → f k b ≡ g k b) → turns f n a ≡ turns g n a
-unfolding turns
-turns-same f g zero a h = refl
-turns-same f g (suc n) a h = ap (f n) (turns-same f g n a (λ k b l. h k b (omega arith))) ∙ h n (turns g n a) (omega arith)
 
 module _ (start count first : ℕ) (inside : start < 1024) (most : count ≤ 1024) (is-first : first ≡ min count (1024 - start)) where
   early : (k : ℕ) → k < first → start + k ≡ (start + k) % 1024
