@@ -2,3 +2,4 @@ pub mod Answer
 pub mod Laws
 pub mod Program
 pub mod StepLaws
+pub mod Whole
