@@ -1,5 +1,3 @@
-pub mod Labels
-pub mod LabelLaws
 pub mod Chain
 pub mod Rows
 pub mod Ranges

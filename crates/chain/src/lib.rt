@@ -8,7 +8,6 @@ ghost use Rattle.chain.specs.Rows.{Lent, valuesOf, chainOf};
 ghost use Rattle.chain.specs.Ranges.{Asks};
 ghost use Rattle.chain.specs.RowLaws.{Left};
 
-pub mod label;
 mod row;
 pub mod step;
 

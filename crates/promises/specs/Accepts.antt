@@ -17,7 +17,7 @@ use Rattle.resampler.specs.Dimensions as resampler
 use Rattle.sequence.specs.Sequence as sequence
 use Rattle.front.specs.Front as front
 use Rattle.front.specs.Steps as steps
-use Rattle.chain.specs.Labels.{conjugates}
+use Rattle.labels.specs.Labels.{conjugates}
 use Rattle.chain.specs.Rows.{chainOf}
 use Rattle.chain.specs.RowLaws.{Left, chain-left}
 use Rattle.receiver.specs.declared.state.Receiver.{Receiver}

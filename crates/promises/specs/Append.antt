@@ -20,7 +20,7 @@ use Rattle.peak.specs.Peak as Peak
 use Rattle.clock.specs.declared.Answer.{Answer}
 use Rattle.clock.specs.declared.Answer.the-variants.{NoSymbol, Symbol}
 use Rattle.front.specs.Front as front
-use Rattle.chain.specs.Labels.{conjugates}
+use Rattle.labels.specs.Labels.{conjugates}
 use Rattle.chain.specs.Chain.{ChainState, withKeeper, withClock, clockRun, symbolOf, heardOf, toldOf, levelOf, steppedOf}
 use Rattle.chain.specs.Rows.{dibitsOf, pairOf, recordsAfter, Told, start, slotAt, nextOf, told, ranOf, chainOf}
 use Rattle.chain.specs.RowLaws.{ran-append}

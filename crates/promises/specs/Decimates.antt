@@ -43,7 +43,7 @@ use Rattle.clock.specs.declared.Answer.the-variants.{NoSymbol, Symbol}
 use Rattle.sequence.specs.declared.soft.Soft.{Soft}
 use Rattle.sequence.specs.declared.soft.Slot.{Slot}
 use Rattle.sequence.specs.Observed.{recordBefore}
-use Rattle.chain.specs.Labels.{conjugates}
+use Rattle.labels.specs.Labels.{conjugates}
 use Rattle.chain.specs.Chain as chain
 use Rattle.chain.specs.Rows as rows
 use Rattle.receiver.specs.declared.state.Receiver.{Receiver}

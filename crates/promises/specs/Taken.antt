@@ -10,7 +10,7 @@ use Rattle.oscillator.specs.declared.Oscillator.{Oscillator}
 use Rattle.oscillator.specs.Oscillator.{turnedOf, mixedOf}
 use Rattle.decimator.specs.declared.Output.{Output}
 use Rattle.front.specs.Front as front
-use Rattle.chain.specs.Labels.{conjugates}
+use Rattle.labels.specs.Labels.{conjugates}
 use Rattle.receiver.specs.declared.state.Receiver.{Receiver}
 use Rattle.samples.specs.Samples.{countOf}
 use Rattle.samples.specs.Run.{frontAt}

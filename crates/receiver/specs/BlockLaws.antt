@@ -12,7 +12,7 @@ use borrow.Author.Tests.{ltb-false, eqb-true}
 use Rattle.laws.specs.Ring.{lt-or-ge}
 use Rattle.numbers.specs.Numbers.{isFinite}
 use Rattle.front.specs.Ready as fit
-use Rattle.chain.specs.Labels.{conjugates}
+use Rattle.labels.specs.Labels.{conjugates}
 use Rattle.receiver.specs.declared.refusal.Verdict.the-variants.{Accepted}
 use Rattle.receiver.specs.declared.state.Receiver.{Receiver}
 use Rattle.receiver.specs.declared.state.Snapshot.{Snapshot}

@@ -1,8 +1,8 @@
--- `chain::label::relabelled` meets its contract. Assumes nothing.
-use Rattle.chain.specs.LabelLaws.{relabel-other}
+-- `labels::relabelled` meets its contract. Assumes nothing.
+use Rattle.labels.specs.LabelLaws.{relabel-other}
 use borrow.Author.Needs.{needs}
-use Rattle.chain.proofs.label.relabelled.Statement.{statement}
-use Rattle.chain.proofs.label.relabelled.Tie as tie
+use Rattle.labels.proofs.relabelled.Statement.{statement}
+use Rattle.labels.proofs.relabelled.Tie as tie
 
 returns : tie.Need-returns
 returns c = search needs

@@ -1,7 +1,7 @@
 // A dibit as its profile labels it, and what it adds to a count.
 ghost use mathlib.Core.Path.{_≡_};
 ghost use Prim.Native.Nat.{_<_, min};
-ghost use Rattle.chain.specs.Labels.{conjugates, relabelledOf, labelledOf, countedOf};
+ghost use Rattle.labels.specs.Labels.{conjugates, relabelledOf, labelledOf, countedOf};
 use sequence::walk::Answer;
 
 // Profile 1 is conjugated; every other number acts as 0.

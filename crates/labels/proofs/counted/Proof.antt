@@ -1,8 +1,8 @@
--- `chain::label::counted` meets its contract. Assumes nothing.
-use Rattle.chain.specs.LabelLaws.{count-dibit, count-kept}
+-- `labels::counted` meets its contract. Assumes nothing.
+use Rattle.labels.specs.LabelLaws.{count-dibit, count-kept}
 use borrow.Author.Needs.{needs}
-use Rattle.chain.proofs.label.counted.Statement.{statement}
-use Rattle.chain.proofs.label.counted.Tie as tie
+use Rattle.labels.proofs.counted.Statement.{statement}
+use Rattle.labels.proofs.counted.Tie as tie
 
 enum-told : tie.Need-enum-told
 enum-told c = search needs

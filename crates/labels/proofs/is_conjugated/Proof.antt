@@ -1,7 +1,7 @@
--- `chain::label::is_conjugated` meets its contract. Assumes nothing.
-use Rattle.chain.specs.LabelLaws.{profile-one, profile-other}
-use Rattle.chain.proofs.label.is_conjugated.Statement.{statement}
-use Rattle.chain.proofs.label.is_conjugated.Tie as tie
+-- `labels::is_conjugated` meets its contract. Assumes nothing.
+use Rattle.labels.specs.LabelLaws.{profile-one, profile-other}
+use Rattle.labels.proofs.is_conjugated.Statement.{statement}
+use Rattle.labels.proofs.is_conjugated.Tie as tie
 
 returns : tie.Need-returns
 returns c = profile-one _ (c .before .fits .profile) (c .if1 .taken)

@@ -10,7 +10,7 @@ use mir.Facts.{toZ-ofZ}
 use borrow.Author.Tests.{ne-eqb}
 use Rattle.sequence.specs.declared.walk.Answer.{Answer}
 use Rattle.sequence.specs.declared.walk.Answer.the-variants.{Silent, Dibit}
-use Rattle.chain.specs.Labels.{conjugates, relabelledOf, labelledOf, countedOf}
+use Rattle.labels.specs.Labels.{conjugates, relabelledOf, labelledOf, countedOf}
 
 -- ---- the profile's number, by its bits
 pub profile-one : (p : ℤ) → SFits w32 p → ofZ w32 p ≡ 1 → true ≡ conjugates p

@@ -1,8 +1,8 @@
--- `chain::label::labelled` meets its contract. Assumes nothing.
-use Rattle.chain.specs.LabelLaws.{label-conjugated, label-kept}
+-- `labels::labelled` meets its contract. Assumes nothing.
+use Rattle.labels.specs.LabelLaws.{label-conjugated, label-kept}
 use borrow.Author.Needs.{needs}
-use Rattle.chain.proofs.label.labelled.Statement.{statement}
-use Rattle.chain.proofs.label.labelled.Tie as tie
+use Rattle.labels.proofs.labelled.Statement.{statement}
+use Rattle.labels.proofs.labelled.Tie as tie
 
 enum-known-answer : tie.Need-enum-known-answer
 enum-known-answer c = search needs
