@@ -1,8 +1,9 @@
-// What bench.rattle does, with the upstream's clock and mixer; bench/part puts what it includes beside it.
+// What bench.rattle does, with the upstream's clock and mixer; bench/part puts what it includes beside
+// it.
 
 include!("shared.rs");
 
-use dsp::{ClockRecovery, Complex32};
+use dsp::ClockRecovery;
 
 /// The arm of a phase, for the digest alone.
 fn arm_of(phase: f32) -> u64 {
