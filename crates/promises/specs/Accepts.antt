@@ -20,13 +20,13 @@ use Rattle.front.specs.Steps as steps
 use Rattle.labels.specs.Labels.{conjugates}
 use Rattle.chain.specs.Rows.{chainOf}
 use Rattle.chain.specs.RowLaws.{Left, chain-left}
-use Rattle.receiver.specs.declared.state.Receiver.{Receiver}
-use Rattle.receiver.specs.Refusal.{firstOf}
-use Rattle.receiver.specs.State.{zero32, freshFront, freshReceiver}
+use Rattle.admission.specs.declared.state.Receiver.{Receiver}
+use Rattle.admission.specs.Refusal.{firstOf}
+use Rattle.admission.specs.State.{zero32, freshFront, freshReceiver}
 use Rattle.receiver.specs.Setup.{setupChecks, setupBy, setupOf}
 use Rattle.samples.specs.Samples.{countOf, finiteOf}
-use Rattle.receiver.specs.Admitted.{admittedOf}
-use Rattle.receiver.specs.Fits.{fits-from}
+use Rattle.admission.specs.Admitted.{admittedOf}
+use Rattle.admission.specs.Fits.{fits-from}
 use Rattle.samples.specs.Run.{frontAt, wholeOf, Going, ReadyRun}
 use Rattle.receiver.specs.Block.{countRefused, roomRefused, judgedOf, statedOf, startOf, blockOf}
 use Rattle.receiver.specs.BlockWays.{counted}

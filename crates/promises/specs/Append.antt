@@ -24,7 +24,7 @@ use Rattle.labels.specs.Labels.{conjugates}
 use Rattle.chain.specs.Chain.{ChainState, withKeeper, withClock, clockRun, symbolOf, heardOf, toldOf, levelOf, steppedOf}
 use Rattle.chain.specs.Rows.{dibitsOf, pairOf, recordsAfter, Told, start, slotAt, nextOf, told, ranOf, chainOf}
 use Rattle.chain.specs.RowLaws.{ran-append}
-use Rattle.receiver.specs.declared.state.Receiver.{Receiver}
+use Rattle.admission.specs.declared.state.Receiver.{Receiver}
 use Rattle.samples.specs.Samples.{countOf, realOf, imaginaryOf, finiteOf, isAbove, overloadOf}
 use Rattle.samples.specs.Run.{wholeOf}
 use Rattle.receiver.specs.Block.{startOf, receiverOf}

@@ -46,11 +46,11 @@ use Rattle.sequence.specs.Observed.{recordBefore}
 use Rattle.labels.specs.Labels.{conjugates}
 use Rattle.chain.specs.Chain as chain
 use Rattle.chain.specs.Rows as rows
-use Rattle.receiver.specs.declared.state.Receiver.{Receiver}
-use Rattle.receiver.specs.State.{zero64, freshReceiver}
+use Rattle.admission.specs.declared.state.Receiver.{Receiver}
+use Rattle.admission.specs.State.{zero64, freshReceiver}
 use Rattle.receiver.specs.Setup.{rateRefused, offsetRefused, setupOf}
-use Rattle.receiver.specs.Admitted.{admittedOf}
-use Rattle.receiver.specs.Fits.{fits-from}
+use Rattle.admission.specs.Admitted.{admittedOf}
+use Rattle.admission.specs.Fits.{fits-from}
 use Rattle.samples.specs.Samples.{countOf}
 use Rattle.samples.specs.Run.{frontAt, wholeOf as wholeRun}
 use Rattle.receiver.specs.Block.{Judged, judgedOf, startOf, acceptedOf, blockOf}

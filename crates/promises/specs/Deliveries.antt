@@ -19,8 +19,8 @@ use Rattle.labels.specs.Labels.{conjugates}
 use Rattle.chain.specs.Chain.{ChainState}
 use Rattle.chain.specs.Rows.{dibitsOf, pairOf, recordsAfter, Told, start, slotAt, nextOf, told, ranOf, Room, laidIn, chainOf}
 use Rattle.chain.specs.RowLaws.{one-most}
-use Rattle.receiver.specs.declared.state.Receiver.{Receiver}
-use Rattle.receiver.specs.State.{snapshotOf}
+use Rattle.admission.specs.declared.state.Receiver.{Receiver}
+use Rattle.admission.specs.State.{snapshotOf}
 use Rattle.samples.specs.Samples.{countOf, overloadOf}
 use Rattle.samples.specs.Run.{frontAt, wholeOf}
 use Rattle.samples.specs.Delivered.{values-most}

@@ -19,13 +19,13 @@ use Rattle.resampler.specs.Design.{tableOf, writtenOf}
 use Rattle.resampler.specs.Ranges.{AdmittedRate}
 use Rattle.signal.specs.Signal as signal
 use Rattle.signal.specs.Laws.{length-parts}
-use Rattle.receiver.specs.declared.state.Receiver.{Receiver}
-use Rattle.receiver.specs.State.{zeroReceiver, freshFront, freshReceiver}
+use Rattle.admission.specs.declared.state.Receiver.{Receiver}
+use Rattle.admission.specs.State.{zeroReceiver, freshFront, freshReceiver}
 use Rattle.receiver.specs.Setup.{rateRefused, offsetRefused, tableRefused, setupOf}
 use Rattle.receiver.specs.Reading.{readingOf}
-use Rattle.receiver.specs.Admitted.{admittedOf}
+use Rattle.admission.specs.Admitted.{admittedOf}
 use Rattle.receiver.specs.Ways.{rate-admitted}
-use Rattle.receiver.specs.Laws.{zero-refused}
+use Rattle.admission.specs.Laws.{zero-refused}
 
 -- as it was but for the first n places
 pub record OnlyFirst {A : Type 0} (n : ℕ) (before after : List A) : Type 0 where

@@ -11,7 +11,7 @@ use Rattle.oscillator.specs.Oscillator.{turnedOf, mixedOf}
 use Rattle.decimator.specs.declared.Output.{Output}
 use Rattle.front.specs.Front as front
 use Rattle.labels.specs.Labels.{conjugates}
-use Rattle.receiver.specs.declared.state.Receiver.{Receiver}
+use Rattle.admission.specs.declared.state.Receiver.{Receiver}
 use Rattle.samples.specs.Samples.{countOf}
 use Rattle.samples.specs.Run.{frontAt}
 use Rattle.receiver.specs.Block.{Outcome, startOf, blockOf}

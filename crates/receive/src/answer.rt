@@ -7,9 +7,9 @@ ghost use Rattle.recording.specs.Text.{writtenOf, put, closingOf};
 ghost use Rattle.receive.specs.Answer.{toldNow, toldOf, totalsOf};
 use chain::ChainPlace;
 use receiver::block::take;
-use receiver::refusal::Verdict;
-use receiver::state::Receiver;
-use receiver::state::snapshot_of;
+use admission::refusal::Verdict;
+use admission::state::Receiver;
+use admission::state::snapshot_of;
 use recording::text::Totals;
 
 // The verdict on a block, its overload, the receiver after it, and where its lines end.

@@ -3,17 +3,17 @@ ghost use mathlib.Core.Path.{_≡_};
 ghost use Prim.Native.Nat.{_+_, _≤_, _<_};
 ghost use lib.Dec.{eqb};
 ghost use lib.ListN.{length};
-ghost use Rattle.receiver.specs.Refusal.{numberOf};
+ghost use Rattle.admission.specs.Refusal.{numberOf};
 ghost use Rattle.recording.specs.Text.{writtenOf};
 ghost use Rattle.receive.specs.declared.step.Stage.the-variants.{Head, Settings, Count, Samples, End};
 ghost use Rattle.receive.specs.Program.{nextOf, wantedOf, startedOf, ranNow, refusedRan, headGood, headOf, settingsOf, settingsTable, stageOf, countOf, samplesOf, endOf, stepOf, tableOf, stoppedOf, leftOf, Moves};
 use crate::answer::answered;
 use crate::answer::closed;
-use receiver::refusal::Verdict;
-use receiver::refusal::is_accepted;
-use receiver::refusal::number;
+use admission::refusal::Verdict;
+use admission::refusal::is_accepted;
+use admission::refusal::number;
 use receiver::setup::set_up;
-use receiver::state::Receiver;
+use admission::state::Receiver;
 use recording::decode::count;
 use recording::decode::float;
 
@@ -46,7 +46,7 @@ pub fn started() -> Program
 {
     Program {
         stage: Stage::Head,
-        receiver: receiver::state::zero(),
+        receiver: admission::state::zero(),
         overload: 0,
         end: 0,
     }

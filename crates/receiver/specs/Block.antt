@@ -9,16 +9,16 @@ use Rattle.labels.specs.Labels.{conjugates}
 use Rattle.chain.specs.Chain.{stateOf}
 use Rattle.chain.specs.declared.ChainPlace.{ChainPlace}
 use Rattle.front.specs.declared.FrontPlace.{FrontPlace}
-use Rattle.receiver.specs.declared.refusal.Verdict.{Verdict}
-use Rattle.receiver.specs.declared.state.Receiver.{Receiver}
-use Rattle.receiver.specs.declared.state.Snapshot.{Snapshot}
+use Rattle.admission.specs.declared.refusal.Verdict.{Verdict}
+use Rattle.admission.specs.declared.state.Receiver.{Receiver}
+use Rattle.admission.specs.declared.state.Snapshot.{Snapshot}
 use Rattle.receiver.specs.declared.block.Checked.{Checked}
 use Rattle.receiver.specs.declared.block.Block.{Block}
-use Rattle.receiver.specs.State.{zeroSnapshot, snapshotOf}
+use Rattle.admission.specs.State.{zeroSnapshot, snapshotOf}
 use Rattle.samples.specs.Run.{Whole, wholeOf}
-use Rattle.receiver.specs.Refusal.{numberOf, Check, firstOf}
+use Rattle.admission.specs.Refusal.{numberOf, Check, firstOf}
 use Rattle.samples.specs.Samples.{countOf, finiteOf, overloadOf}
-use Rattle.receiver.specs.Admitted.{stateFits}
+use Rattle.admission.specs.Admitted.{stateFits}
 
 -- ---- the checks, in their order
 

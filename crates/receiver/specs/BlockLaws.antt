@@ -13,17 +13,17 @@ use Rattle.laws.specs.Ring.{lt-or-ge}
 use Rattle.numbers.specs.Numbers.{isFinite}
 use Rattle.front.specs.Ready as fit
 use Rattle.labels.specs.Labels.{conjugates}
-use Rattle.receiver.specs.declared.refusal.Verdict.the-variants.{Accepted}
-use Rattle.receiver.specs.declared.state.Receiver.{Receiver}
-use Rattle.receiver.specs.declared.state.Snapshot.{Snapshot}
+use Rattle.admission.specs.declared.refusal.Verdict.the-variants.{Accepted}
+use Rattle.admission.specs.declared.state.Receiver.{Receiver}
+use Rattle.admission.specs.declared.state.Snapshot.{Snapshot}
 use Rattle.receiver.specs.declared.block.Checked.{Checked}
 use Rattle.receiver.specs.declared.block.Block.{Block}
-use Rattle.receiver.specs.Refusal.{numberOf}
-use Rattle.receiver.specs.State.{snapshotOf}
+use Rattle.admission.specs.Refusal.{numberOf}
+use Rattle.admission.specs.State.{snapshotOf}
 use Rattle.samples.specs.Samples.{countOf, realOf, imaginaryOf, finiteOf}
 use Rattle.samples.specs.Loud.{finite-parts}
-use Rattle.receiver.specs.Admitted.{admittedOf}
-use Rattle.receiver.specs.Fits.{Fits, fits-from, fits-to}
+use Rattle.admission.specs.Admitted.{admittedOf}
+use Rattle.admission.specs.Fits.{Fits, fits-from, fits-to}
 use Rattle.samples.specs.Run.{Whole, wholeOf, Going, ReadyRun}
 use Rattle.receiver.specs.Block.{countRefused, roomRefused, Judged, judgedNow, judgedOf, statedOf, startOf, receiverOf, outcomeNow, endedOf, acceptedOf, refusedBlock, blockOf}
 use Rattle.receiver.specs.BlockWays.{counted}

@@ -10,14 +10,14 @@ use lib.ListN.{length}
 use lib.Ieee.{Float}
 use borrow.Author.Tests.{lt-ltb, le-ltb, ltb-false, eqb-false}
 use Rattle.laws.specs.Ring.{lt-or-ge}
-use Rattle.receiver.specs.declared.refusal.Verdict.the-variants.{Accepted, Table, Count, Sample, Room, State}
+use Rattle.admission.specs.declared.refusal.Verdict.the-variants.{Accepted, Table, Count, Sample, Room, State}
 use Rattle.chain.specs.declared.ChainPlace.{ChainPlace}
 use Rattle.front.specs.declared.FrontPlace.{FrontPlace}
 use Rattle.samples.specs.declared.level.Level.{Level}
 use Rattle.receiver.specs.declared.block.Checked.{Checked}
 use Rattle.samples.specs.Samples.{countOf, finiteOf, levelOf}
-use Rattle.receiver.specs.Admitted.{stateFits}
-use Rattle.receiver.specs.Fits.{fits-from}
+use Rattle.admission.specs.Admitted.{stateFits}
+use Rattle.admission.specs.Fits.{fits-from}
 use Rattle.receiver.specs.Block.{countRefused, roomRefused, refusedBy, judgedNow, laterOf, statedOf}
 
 -- ---- how many

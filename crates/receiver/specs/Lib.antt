@@ -1,9 +1,3 @@
-pub mod Refusal
-pub mod State
-pub mod Admitted
-pub mod Largest
-pub mod AdmittedTests
-pub mod Fits
 pub mod Setup
 pub mod Reading
 pub mod Ways

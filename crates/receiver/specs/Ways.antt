@@ -18,12 +18,12 @@ use Rattle.resampler.specs.Dimensions.{sizedOf}
 use Rattle.resampler.specs.Design.{writtenOf}
 use Rattle.resampler.specs.Ranges.{AdmittedRate, lowestRate, highestRate}
 use Rattle.front.specs.declared.FrontPlace.{FrontPlace}
-use Rattle.receiver.specs.declared.refusal.Verdict.the-variants.{Accepted, Rate, Offset, Table, State}
-use Rattle.receiver.specs.declared.state.Receiver.{Receiver}
+use Rattle.admission.specs.declared.refusal.Verdict.the-variants.{Accepted, Rate, Offset, Table, State}
+use Rattle.admission.specs.declared.state.Receiver.{Receiver}
 use Rattle.receiver.specs.declared.setup.Setup.{Setup}
-use Rattle.receiver.specs.State.{freshFront, freshReceiver}
-use Rattle.receiver.specs.Admitted.{admittedOf}
-use Rattle.receiver.specs.Fits.{fits-from}
+use Rattle.admission.specs.State.{freshFront, freshReceiver}
+use Rattle.admission.specs.Admitted.{admittedOf}
+use Rattle.admission.specs.Fits.{fits-from}
 use Rattle.receiver.specs.Setup.{rateRefused, offsetRefused, setupNow, refusedReceiver, setupOf}
 use Rattle.receiver.specs.Reading.{pointsNow, readingOf}
 

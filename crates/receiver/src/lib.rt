@@ -1,9 +1,6 @@
 // The receiver: setup, blocks of samples, and the reading of the constellation. What is asked of a
 // caller is checked, and answered by a refusal.
 
-pub mod admitted;
 pub mod block;
 pub mod reading;
-pub mod refusal;
 pub mod setup;
-pub mod state;

@@ -1,9 +1,9 @@
 // The constellation: the last points, oldest first, and their error.
 ghost use mathlib.Core.Path.{_≡_};
 ghost use Rattle.receiver.specs.Reading.{pointsNow, readingOf};
-use crate::admitted::is_admitted;
-use crate::refusal::Verdict;
-use crate::state::Receiver;
+use admission::admitted::is_admitted;
+use admission::refusal::Verdict;
+use admission::state::Receiver;
 
 pub struct Points {
     pub verdict: Verdict,

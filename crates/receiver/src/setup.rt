@@ -1,9 +1,9 @@
 // A fresh receiver for a rate and an offset, or a refusal.
 ghost use mathlib.Core.Path.{_≡_};
-ghost use Rattle.receiver.specs.State.{freshFront};
+ghost use Rattle.admission.specs.State.{freshFront};
 ghost use Rattle.receiver.specs.Setup.{rateRefused, offsetRefused, refusedReceiver, SetUp, setupNow, setupOf};
-use crate::refusal::Verdict;
-use crate::state::Receiver;
+use admission::refusal::Verdict;
+use admission::state::Receiver;
 use front::FrontPlace;
 use numbers::compare::abs;
 use numbers::compare::is_finite;
@@ -43,7 +43,7 @@ fn front_at(rate: f64, offset: f64, d: Dimensions) -> FrontPlace
 fn refused(verdict: Verdict) -> Setup
     ensures { λ r. ⌜ r ≡ refusedReceiver verdict ⌝ }
 {
-    let receiver = crate::state::zero();
+    let receiver = admission::state::zero();
     Setup { verdict, receiver }
 }
 
@@ -64,7 +64,7 @@ pub fn set_up(rate: f64, offset: f64, profile: i32, table: &mut [f32]) -> Setup
     }
     resampler::design::write_table(d.arm, d.rate, table);
     let front = front_at(rate, offset, d);
-    let receiver = crate::state::fresh(front, profile);
+    let receiver = admission::state::fresh(front, profile);
     Setup {
         verdict: Verdict::Accepted,
         receiver,

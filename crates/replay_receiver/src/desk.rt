@@ -1,13 +1,13 @@
 // The entries of a script, each on the state and the table that stand on the desk.
 ghost use Prim.Native.Nat.{_<_, _≤_};
 ghost use lib.ListN.{length};
-use super::codec::decoded;
-use super::codec::encode;
-use super::codec::profile_of;
+use replay_states::decoded;
+use replay_states::encode;
+use replay_states::profile_of;
 use numbers::bits::float;
 use numbers::bits::float32;
-use receiver::refusal::number;
-use receiver::state::Snapshot;
+use admission::refusal::number;
+use admission::state::Snapshot;
 use replay::mark;
 use replay::mixed;
 use replay::mixed_bytes;

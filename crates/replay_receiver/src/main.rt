@@ -1,7 +1,6 @@
 // Answers a script of calls, as oracle/src/script.rs lays it out: setups, blocks and constellation
 // reads on a state and a table that stay from entry to entry, or are handed in word by word. What is
 // lent is filled with a pattern before each call, and all of it goes into the answer's digest.
-mod codec;
 mod desk;
 
 use desk::Entry;

@@ -1,0 +1,7 @@
+pub mod Refusal
+pub mod State
+pub mod Admitted
+pub mod AdmittedTests
+pub mod Fits
+pub mod Largest
+pub mod Laws
