@@ -18,31 +18,8 @@ use Rattle.chain.specs.declared.ChainPlace.{ChainPlace}
 use Rattle.front.specs.declared.FrontPlace.{FrontPlace}
 use Rattle.admission.specs.Admitted.{totalsFit, frontFits, symbolFits, detectorFits, chainFits, parentsFit, stateFits}
 use Rattle.admission.specs.AdmittedTests.{frontRanges, detectorRanges, chainRanges}
-use mathlib.Core.Logic.{inl, inr}
-use mathlib.Core.Bool.{false, false≢true}
-use Prim.Native.Nat.{zero, suc}
-use native.Mathlib.Omega.{arith}
-use Rattle.laws.specs.Turns.{turns}
-use Rattle.laws.specs.Ring.{lt-or-ge}
-
-pub and-true : (a b : Bool) → (a && b) ≡ true → (a ≡ true) × (b ≡ true)
-and-true true b h = (refl, h)
-and-true false b h = absurd (false≢true h)
-
-pub all-true : (g : ℕ → Bool) (n : ℕ) → ((k : ℕ) → k < n → g k ≡ true) → turns (λ (k : ℕ) (b : Bool). b && g k) n true ≡ true
-unfolding turns
-all-true g zero h = refl
-all-true g (suc n) h = rw (all-true g n (λ k l. h k (omega arith)), h n (omega arith))
-
-pub true-all : (g : ℕ → Bool) (n : ℕ) → turns (λ (k : ℕ) (b : Bool). b && g k) n true ≡ true → (k : ℕ) → k < n → g k ≡ true
-unfolding turns
-true-all g zero h k l = absurd (omega arith)
-true-all g (suc n) h k l =
-    let t = and-true (turns (λ (k : ℕ) (b : Bool). b && g k) n true) (g n) h in
-    elim (lt-or-ge k n) [
-      | inl m ↦ true-all g n (t .0) k m
-      | inr q ↦ let e : k ≡ n = omega arith in rw e (t .1)
-    ]
+use Rattle.laws.specs.Places.{all-true, true-all}
+use Rattle.laws.specs.Branches.{and-true}
 
 pub record FrontFits (p : FrontPlace) : Type 0 where
   pub some : 1 ≤ p .decimator .decimation

@@ -1,6 +1,6 @@
--- A branch: what a `cond` is where its test is known. Assumes nothing.
+-- A branch: what a `cond` is where its test is known, and what a test that holds says. Assumes nothing.
 use mathlib.Core.Path.{_≡_, refl, sym}
-use mathlib.Core.Bool.{Bool, true, false, not, cond}
+use mathlib.Core.Bool.{Bool, true, false, not, cond, _&&_, false≢true}
 
 module _ {A : Type 0} where
   pub cond-yes : (b : Bool) (x y : A) → b ≡ true → x ≡ cond b x y
@@ -19,3 +19,7 @@ not-true false h = refl
 pub not-false : (b : Bool) → not b ≡ false → b ≡ true
 not-false true h = refl
 not-false false h = sym h
+
+pub and-true : (a b : Bool) → (a && b) ≡ true → (a ≡ true) × (b ≡ true)
+and-true true b h = (refl, h)
+and-true false b h = absurd (false≢true h)

@@ -2,6 +2,7 @@
 use mathlib.Core.Path.{_≡_, refl, ap, sym, _∙_}
 use mathlib.Core.Logic.{_⊎_, inl, inr, ⊎-elim, _≢_}
 use mathlib.Core.List.{List, [], _∷_, _++_, append-assoc}
+use mathlib.Core.Bool.{Bool, true, _&&_}
 use Prim.Native.Nat.{ℕ, zero, suc, _+_, _-_, _*_, _≤_, _<_}
 use native.Mathlib.Nat.{eq-zero-or-pos, mul-le-mul-right, add-mul, one-mul}
 use native.Mathlib.Numerals.{add-one}
@@ -9,6 +10,7 @@ use native.Mathlib.Omega.{arith}
 use lib.ListN.{length, getD, set, drop, length-append, length-set, List·getD-append}
 use lib.Seq.{getD-set-same, getD-set-other, getD-at, ext-getD, drop-cons, set-at, append-snoc}
 use Rattle.laws.specs.Turns.{turns, turns-more, turns-start, turns-step, turns-end}
+use Rattle.laws.specs.Branches.{and-true}
 
 pub le-or : (i n : ℕ) → i ≤ n → (i < n) ⊎ (i ≡ n)
 le-or i n h = ⊎-elim (λ z. inr (omega arith)) (λ p. inl (omega arith)) (eq-zero-or-pos (n - i))
@@ -173,3 +175,16 @@ row-ends p n c size h le =
     let m : (p + 1) * c ≤ n * c = mul-le-mul-right c (omega arith) in
     let e : (p + 1) * c ≡ p * c + c = simp add-mul (ap (λ (k : ℕ). p * c + k) (one-mul c)) in
     omega arith
+
+-- ---- a test of every place
+pub all-true : (g : ℕ → Bool) (n : ℕ) → ((k : ℕ) → k < n → g k ≡ true) → turns (λ (k : ℕ) (b : Bool). b && g k) n true ≡ true
+unfolding turns
+all-true g zero h = refl
+all-true g (suc n) h = rw (all-true g n (λ k l. h k (omega arith)), h n (omega arith))
+
+pub true-all : (g : ℕ → Bool) (n : ℕ) → turns (λ (k : ℕ) (b : Bool). b && g k) n true ≡ true → (k : ℕ) → k < n → g k ≡ true
+unfolding turns
+true-all g zero h k l = absurd (omega arith)
+true-all g (suc n) h k l =
+    let t = and-true (turns (λ (k : ℕ) (b : Bool). b && g k) n true) (g n) h in
+    ⊎-elim (λ m. true-all g n (t .0) k m) (λ e. ap g e ∙ t .1) (le-or k n (omega arith))

@@ -10,7 +10,7 @@ use lib.Ieee.{Float}
 use Rattle.admission.specs.declared.state.Receiver.{Receiver}
 use Rattle.admission.specs.State.{snapshotOf}
 use Rattle.samples.specs.Samples.{countOf, finiteOf}
-use Rattle.samples.specs.Loud.{and-true}
+use Rattle.laws.specs.Branches.{and-true}
 use Rattle.receiver.specs.Block.{Outcome, blockOf}
 use Rattle.promises.specs.Deliveries.{dibitsIn, bytesIn, deliveriesOf, afterOf, outcomeOf, length-dibits, length-bytes, dibits-append, bytes-append, total-after, accepted-is}
 use Rattle.promises.specs.Append.{count-append, finite-append, overload-append, after-append, delivered-append}

@@ -9,6 +9,8 @@ use lib.Dec.{T, ltb, eqb}
 use lib.Ieee.{Float, nan, inf, fin, binary32, ofBits, neg, up, down, lt, eq, le}
 use borrow.Author.Tests.{lt-ltb, le-ltb, eq-eqb, ne-eqb}
 use Rattle.laws.specs.Turns.{turns}
+use Rattle.laws.specs.Places.{all-true, true-all}
+use Rattle.laws.specs.Branches.{and-true}
 use Rattle.laws.specs.Ring.{lt-or-ge}
 use Rattle.numbers.specs.Numbers.{absOf, isFinite}
 use Rattle.samples.specs.declared.level.Level.{Level}
@@ -90,25 +92,6 @@ sums-same : (f g : ℕ → ℕ) (n : ℕ) → ((k : ℕ) → k < n → f k ≡ g
 unfolding turns
 sums-same f g zero h = refl
 sums-same f g (suc n) h = rw (sums-same f g n (λ k l. h k (omega arith)), h n (omega arith))
-
-pub and-true : (a b : Bool) → (a && b) ≡ true → (a ≡ true) × (b ≡ true)
-and-true true b h = (refl, h)
-and-true false b h = absurd (false≢true h)
-
-pub all-true : (g : ℕ → Bool) (n : ℕ) → ((k : ℕ) → k < n → g k ≡ true) → turns (λ (k : ℕ) (b : Bool). b && g k) n true ≡ true
-unfolding turns
-all-true g zero h = refl
-all-true g (suc n) h = rw (all-true g n (λ k l. h k (omega arith)), h n (omega arith))
-
-pub true-all : (g : ℕ → Bool) (n : ℕ) → turns (λ (k : ℕ) (b : Bool). b && g k) n true ≡ true → (k : ℕ) → k < n → g k ≡ true
-unfolding turns
-true-all g zero h k l = absurd (omega arith)
-true-all g (suc n) h k l =
-    let t = and-true (turns (λ (k : ℕ) (b : Bool). b && g k) n true) (g n) h in
-    elim (lt-or-ge k n) [
-      | inl m ↦ true-all g n (t .0) k m
-      | inr q ↦ let e : k ≡ n = omega arith in rw e (t .1)
-    ]
 
 pub finite-parts : (xs : List Float) → finiteOf xs ≡ true → (k : ℕ) → k < countOf xs → (isFinite (realOf xs k) ≡ true) × (isFinite (imaginaryOf xs k) ≡ true)
 unfolding finiteOf
