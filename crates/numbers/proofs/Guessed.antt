@@ -51,21 +51,15 @@ nearest-half n q lo hi = go (leb (q * q) (n * 2 ^ 42)) (leb→le (q * q) (n * 2 
     go false h k = less q lo (k tt)
 
 -- ---- by the halves of q, and what each step leaves
-module _ (n q : ℕ) where
+module _ (n q first last : ℕ) where
   abbrev h : ℕ
   h = q / 134217728
 
   abbrev l : ℕ
   l = q % 134217728
 
-  abbrev middle : ℕ
-  middle = (n / 4096 + 1 - h * h) * 134217728 + n % 4096 * 32768
-
-  abbrev pub left : ℕ
-  left = (middle - h * l * 2) * 134217728
-
-  both : h * h ≤ n / 4096 + 1 → h * l * 2 ≤ middle → left + q * q ≡ n * 2 ^ 42 + 2 ^ 54 + l * l
-  both a b = ap (λ (x : ℕ). left + x) (ap (λ (x : ℕ). x * x) (halves q) ∙ square h l) ∙ sides n (h * h) (h * l) (l * l) a b
+  both : first + h * h ≡ n / 4096 + 1 → last + h * l * 2 ≡ first * 134217728 + n % 4096 * 32768 → last * 134217728 + q * q ≡ n * 2 ^ 42 + 2 ^ 54 + l * l
+  both a b = ap (λ (x : ℕ). last * 134217728 + x) (ap (λ (x : ℕ). x * x) (halves q) ∙ square h l) ∙ sides n first last (h * h) (h * l) (l * l) a b
     where
       halves : (q : ℕ) → q ≡ q / 134217728 * 134217728 + q % 134217728
       halves q = omega arith
@@ -73,18 +67,21 @@ module _ (n q : ℕ) where
       square : (h l : ℕ) → (h * 134217728 + l) * (h * 134217728 + l) ≡ h * h * 2 ^ 54 + h * l * 2 ^ 28 + l * l
       square h l = omega arith
 
-      sides : (n a x c : ℕ) → a ≤ n / 4096 + 1 → x * 2 ≤ (n / 4096 + 1 - a) * 134217728 + n % 4096 * 32768
-          → ((n / 4096 + 1 - a) * 134217728 + n % 4096 * 32768 - x * 2) * 134217728 + (a * 2 ^ 54 + x * 2 ^ 28 + c) ≡ n * 2 ^ 42 + 2 ^ 54 + c
-      sides n a x c k m = omega arith
+      sides : (n f m a x c : ℕ) → f + a ≡ n / 4096 + 1 → m + x * 2 ≡ f * 134217728 + n % 4096 * 32768 → m * 134217728 + (a * 2 ^ 54 + x * 2 ^ 28 + c) ≡ n * 2 ^ 42 + 2 ^ 54 + c
+      sides n f m a x c k e = omega arith
 
-  pub seen-half : h * h ≤ n / 4096 + 1 → h * l * 2 ≤ middle → l * l + 2 ^ 54 < left + q → left ≤ l * l + 2 ^ 54 + q → HalfRoot n q
-  seen-half a b lo hi = nearest-half n q (under left (q * q) (n * 2 ^ 42) (l * l) (both a b) lo) (over left (q * q) (n * 2 ^ 42) (l * l) (both a b) hi)
+  pub seen-half : first + h * h ≡ n / 4096 + 1 → last + h * l * 2 ≡ first * 134217728 + n % 4096 * 32768 → l * l + 2 ^ 54 < last * 134217728 + q → last * 134217728 ≤ l * l + 2 ^ 54 + q → HalfRoot n q
+  seen-half a b lo hi = nearest-half n q (under (last * 134217728) (q * q) (n * 2 ^ 42) (l * l) (both a b) lo) (over (last * 134217728) (q * q) (n * 2 ^ 42) (l * l) (both a b) hi)
     where
-      under : (left s m c : ℕ) → left + s ≡ m + 2 ^ 54 + c → c + 2 ^ 54 < left + q → s < m + q
-      under left s m c e k = omega arith
+      under : (r s m c : ℕ) → r + s ≡ m + 2 ^ 54 + c → c + 2 ^ 54 < r + q → s < m + q
+      under r s m c e k = omega arith
 
-      over : (left s m c : ℕ) → left + s ≡ m + 2 ^ 54 + c → left ≤ c + 2 ^ 54 + q → m ≤ s + q
-      over left s m c e k = omega arith
+      over : (r s m c : ℕ) → r + s ≡ m + 2 ^ 54 + c → r ≤ c + 2 ^ 54 + q → m ≤ s + q
+      over r s m c e k = omega arith
+
+-- a small difference did not wrap
+pub unwrapped : (r a b : ℕ) → (r + b) % 2 ^ 64 ≡ a → r < 2 ^ 30 → b < 2 ^ 55 → r + b ≡ a
+unwrapped r a b e h k = omega arith
 
 -- ---- the products fit
 pub product-lt : (a b : ℕ) → a < 2 ^ 27 → b < 2 ^ 27 → a * b < 2 ^ 54

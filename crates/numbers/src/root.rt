@@ -15,6 +15,7 @@ use super::parts::pow2;
 use super::parts::power;
 use super::parts::power32;
 use super::parts::wide;
+use std::num::wrapping_sub_u64;
 
 // What a root is taken of. The number is its own root (a NaN, a zero, the infinity), it has none, or
 // it is digits * 2 ^ power of the format's smallest values, and above zero.
@@ -97,29 +98,19 @@ fn guess(n: u64) -> u64
 // Whether q is seen to be the root of n * 2 ^ 42 to the nearest whole number. The two sides are
 // n / 2 ^ 12 * 2 ^ 54 + n % 2 ^ 12 * 2 ^ 42 and, by the halves of q,
 // high * high * 2 ^ 54 + 2 * high * low * 2 ^ 27 + low * low. One is taken off the other from the
-// highest place down, with 2 ^ 54 added, so that a difference a little below zero is a number too. A
-// large difference is not followed further.
+// highest place down, with 2 ^ 54 added, so that a difference a little below zero is a number too. Of
+// a large difference, or one that wraps, nothing is seen.
 fn confirmed(n: u64, q: u64) -> bool
     requires { ⌜ q < 2 ^ 53 ⌝ }
     ensures { λ r. ⌜ (r ≡ true → HalfRoot n q) ⌝ }
 {
     let high = q / 0x800_0000;
     let low = q % 0x800_0000;
-    let upper = high * high;
-    let whole = n / 0x1000 + 1;
-    if whole < upper {
-        return false;
-    }
-    let first = whole - upper;
+    let first = wrapping_sub_u64(n / 0x1000 + 1, high * high);
     if first >= 0x1000_0000 {
         return false;
     }
-    let middle = first * 0x800_0000 + n % 0x1000 * 0x8000;
-    let cross = high * low * 2;
-    if middle < cross {
-        return false;
-    }
-    let last = middle - cross;
+    let last = wrapping_sub_u64(first * 0x800_0000 + n % 0x1000 * 0x8000, high * low * 2);
     if last >= 0x4000_0000 {
         return false;
     }
