@@ -3,3 +3,4 @@ pub mod ToWhole
 pub mod Rooting
 pub mod Integers
 pub mod Minus
+pub mod Guessed
