@@ -9,7 +9,7 @@ use complex::Complex64;
 use numbers::compare::clamp;
 use numbers::compare::clamp32;
 use numbers::narrow::widen;
-use numbers::root::sqrt32;
+use roots::sqrt32;
 use numbers::whole::round_ties_even;
 use routines::circle::SineCosine;
 use routines::circle::sine_cosine;

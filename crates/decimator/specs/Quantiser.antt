@@ -23,7 +23,7 @@ use Rattle.laws.specs.FloatRounding.{round-neg, round-zero}
 use Rattle.laws.specs.FloatValues.{round-id}
 use Rattle.laws.specs.Ring.{lt-or-ge}
 use Rattle.numbers.specs.Numbers.{wholeOf, away}
-use Rattle.numbers.specs.Shift.{near-lt, near-gt}
+use Rattle.patterns.specs.Shift.{near-lt, near-gt}
 use Rattle.numbers.proofs.ToWhole.{away-is, whole-value}
 use Rattle.decimator.specs.Decimator.{quantiseOf}
 

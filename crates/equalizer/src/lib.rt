@@ -6,7 +6,7 @@ ghost use Rattle.equalizer.specs.Equalizer.{Step, rowOf, freshReal, fres
 use complex::Complex32;
 use numbers::compare::clamp32;
 use numbers::compare::is_finite32;
-use numbers::root::sqrt32;
+use roots::sqrt32;
 
 // Zero: adapting to a constant modulus made fading channels worse, and the detector that follows
 // models the delayed paths.

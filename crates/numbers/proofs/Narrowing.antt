@@ -12,7 +12,7 @@ use lib.Ieee.{binary32, binary64, nearest, round, ofBits}
 use lib.Ieee.Nearest.{closest}
 use Rattle.laws.specs.FloatPack.{shifted-bits, shifted-min, closest-top}
 use Rattle.laws.specs.FloatParts.{field, digitsOf, powerOf, digits-lt, digits-some}
-use Rattle.numbers.specs.Shift.{Cmp, cmp}
+use Rattle.patterns.specs.Shift.{Cmp, cmp}
 use Rattle.numbers.specs.Fractions.{rare}
 use Rattle.numbers.specs.Laws.{or-false, from-false}
 

@@ -18,7 +18,7 @@ use Rattle.numbers.specs.Numbers.{wholeOf, away, toEven, downward}
 use Rattle.laws.specs.FloatParts.{field, digitsOf, powerOf}
 use Rattle.laws.specs.FloatParts.{finite-field, float-value, digits-lt, bits-inf}
 use lib.Arith.{lt→nleb}
-use Rattle.numbers.specs.Shift.{near-lt}
+use Rattle.patterns.specs.Shift.{near-lt}
 use Rattle.numbers.specs.Laws.{ne-self}
 use Rattle.numbers.specs.Fractions.{fractionOf}
 use Rattle.numbers.specs.declared.whole.Fraction.{Fraction}

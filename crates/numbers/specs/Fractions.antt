@@ -1,12 +1,9 @@
--- What the code reads off a bit pattern: the digits below the point, what a root is taken of, and whether narrowing meets a rare case. Definitions only.
-use Prim.Native.Nat.{ℕ, _-_, _*_}
-use mathlib.Core.Bool.{Bool, false, cond, _||_}
-use lib.Dec.{leb, ltb, eqb}
-use lib.IntN.{pos}
-use lib.Ieee.{Float, fin, Format, low, hid, ones, top, eq, isNan, toBits}
+-- What the code reads off a bit pattern: the digits below the point, and whether narrowing meets a rare case. Definitions only.
+use Prim.Native.Nat.{ℕ, _-_}
+use mathlib.Core.Bool.{Bool, cond, _||_}
+use lib.Dec.{leb, ltb}
+use lib.Ieee.{Float, Format, low, top, isNan, toBits}
 use Rattle.laws.specs.FloatParts.{digitsOf, powerOf}
-use Rattle.numbers.specs.declared.root.Radicand.{Radicand}
-use Rattle.numbers.specs.declared.root.Radicand.the-variants.{Itself, Negative, Digits}
 use Rattle.numbers.specs.declared.whole.Fraction.{Fraction}
 use Rattle.numbers.specs.declared.whole.Fraction.the-variants.{Nothing, Parts}
 
@@ -19,9 +16,3 @@ fractionOf f x =
 -- a magnitude's bits are below those of 2 ^ -126, or reach those of what rounds to an f32 infinity, (2 ^ 25 - 1) * 2 ^ 103
 abbrev pub rare : ℕ → Bool
 rare m = ltb m 0x3810000000000000 || leb 0x47effffff0000000 m
-
-unfoldable pub radicandOf : Format → Float → Radicand
-unfolding isNan eq toBits
-radicandOf f x =
-    let b = toBits f x in
-    cond (isNan x) Itself (cond (eq x (fin false 0 (pos 0))) Itself (cond (leb (top f) b) Negative (cond (eqb b (ones f * hid f)) Itself (Digits (digitsOf f b) (powerOf f b)))))

@@ -6,7 +6,7 @@ use Prim.Native.Nat.{ℕ, zero, suc, _+_, _*_, _%_, _≤_, _<_, compare, Orderin
 use native.Mathlib.Nat.{le-of-eq, le-of-lt, not-le-of-lt, mul-le-mul-right, le-of-mul-le-mul-right, eq-or-lt-of-le}
 use native.Mathlib.Omega.{arith}
 use lib.Ieee.{nearest}
-use Rattle.numbers.specs.Shift.{Cmp, cmp}
+use Rattle.patterns.specs.Shift.{Cmp, cmp}
 
 module _ (Lo Hi : ℕ → Type 0) where
   -- q is nearest: half a step less is at most the exact number, half a step more is at least it, and where one of the two is the number, q is even

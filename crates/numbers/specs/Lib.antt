@@ -4,7 +4,6 @@ pub mod Fractions
 pub mod Bits
 pub mod BitsLaws
 pub mod Laws
-pub mod Shift
 pub mod Roots
 pub mod RootOrder
 pub mod Faithful

@@ -24,7 +24,7 @@ use Rattle.laws.specs.FloatValues.{no-inf, no-nan-fin}
 use lib.Ieee.Positive.{num, den, den-pos, positive}
 use Rattle.laws.specs.FloatOrder.{nonneg}
 use Rattle.numbers.specs.Numbers.{convert}
-use Rattle.numbers.specs.Shift.{Cmp, cmp}
+use Rattle.patterns.specs.Shift.{Cmp, cmp}
 use Rattle.numbers.specs.Faithful.{sqrt-is}
 use Rattle.numbers.specs.Root.{isqrt, closestRoot, roundRoot, sqrtOf}
 use Rattle.numbers.specs.Roots.{isqrt-is, closestRoot-is}

@@ -15,7 +15,7 @@ use lib.Ieee.Exact.{HasValue, odd-sign}
 use lib.Ieee.Nearest.{closest, nearest-ge}
 use lib.Ieee.Order.{drop, kept, le-of-values}
 use Rattle.numbers.specs.Root.{isqrt, closestRoot, roundRoot}
-use Rattle.numbers.specs.Shift.{Cmp, cmp}
+use Rattle.patterns.specs.Shift.{Cmp, cmp}
 use Rattle.numbers.specs.Roots.{isqrt-is, closestRoot-is, root-at-least}
 
 pub square-lt : (a b : ℕ) → a * a < b * b → a < b

@@ -12,7 +12,7 @@ use lib.Ieee.{Format, binary32, binary64, prec, low, size, nearest, units}
 use lib.Ieee.Digits.{size-lt, size-le}
 use lib.Ieee.Nearest.{div-same}
 use Rattle.numbers.specs.Root.{rootIn, isqrt, closestRoot, roundRoot}
-use Rattle.numbers.specs.Shift.{near-lt, near-eq, near-gt, Cmp, cmp}
+use Rattle.patterns.specs.Shift.{near-lt, near-eq, near-gt, Cmp, cmp}
 use Rattle.laws.specs.FloatPack.{packed}
 use lib.Ieee.{hid, ones, ofBits}
 

@@ -1,10 +1,8 @@
 // Number helpers: comparisons that pass over a NaN or keep it, rounding to whole numbers, narrowing,
-// square roots, and what bits stand for. Each has its answer for every input. A name that ends in 32
-// is that of the `f32` form.
+// and what bits stand for. Each has its answer for every input. A name that ends in 32 is that of
+// the `f32` form.
 
 pub mod bits;
 pub mod compare;
 pub mod narrow;
-mod parts;
-pub mod root;
 pub mod whole;

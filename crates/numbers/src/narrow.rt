@@ -7,13 +7,13 @@ ghost use lib.Ieee.{binary32, binary64, round};
 ghost use Rattle.laws.specs.FloatParts.{digitsOf, powerOf};
 ghost use Rattle.numbers.specs.Numbers.{convert};
 ghost use Rattle.numbers.specs.Fractions.{rare};
-use super::parts::digits;
-use super::parts::least;
-use super::parts::less;
-use super::parts::pow2;
-use super::parts::power;
-use super::parts::shifted;
-use super::parts::wide;
+use patterns::digits;
+use patterns::least;
+use patterns::less;
+use patterns::pow2;
+use patterns::power;
+use patterns::shifted;
+use patterns::wide;
 
 // The same number at the wider format; a NaN stays one.
 pub fn widen(x: f32) -> f64

@@ -6,14 +6,14 @@ ghost use lib.IntN.{pos, natAbs};
 ghost use lib.Ieee.{binary32, binary64, round, ofInt, toSigned, toUnsigned};
 ghost use Rattle.numbers.specs.Numbers.{wholeOf, away, toEven, downward};
 ghost use Rattle.numbers.specs.Fractions.{fractionOf};
-use super::parts::digits;
-use super::parts::digits32;
-use super::parts::least;
-use super::parts::pow2;
-use super::parts::power;
-use super::parts::power32;
-use super::parts::shifted;
-use super::parts::wide;
+use patterns::digits;
+use patterns::digits32;
+use patterns::least;
+use patterns::pow2;
+use patterns::power;
+use patterns::power32;
+use patterns::shifted;
+use patterns::wide;
 
 // w with a sign.
 fn signed(s: bool, w: u64) -> f64

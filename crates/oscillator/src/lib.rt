@@ -5,7 +5,7 @@ ghost use Rattle.oscillator.specs.declared.Step.{Step};
 ghost use Rattle.oscillator.specs.Oscillator.{freshOscillator, renormalizedOf, turnedOf, signedBy, Number, productOf, mixedOf, steppedOf};
 use complex::Complex32;
 use complex::Complex64;
-use numbers::root::sqrt;
+use roots::sqrt;
 use routines::circle::cosine;
 use routines::circle::sine;
 

@@ -4,7 +4,6 @@ ghost use Prim.Native.Nat.{_≤_};
 use numbers::bits;
 use numbers::compare;
 use numbers::narrow;
-use numbers::root;
 use numbers::whole;
 use replay::mixed;
 use replay::mixed_flag;
@@ -79,8 +78,8 @@ fn roundings(h: u64, x: f64, y: f32) -> u64 {
     let h4 = mixed_float32(h3, whole::floor32(y));
     let h5 = mixed_float(h4, whole::round(x));
     let h6 = mixed_float(h5, whole::round_ties_even(x));
-    let h7 = mixed_float(h6, root::sqrt(x));
-    mixed_float32(h7, root::sqrt32(y))
+    let h7 = mixed_float(h6, roots::sqrt(x));
+    mixed_float32(h7, roots::sqrt32(y))
 }
 
 // The 64 bits of a 32-bit number, its sign kept.

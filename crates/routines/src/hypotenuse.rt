@@ -9,7 +9,7 @@ ghost use Rattle.routines.specs.Enclosed as Enclosed;
 ghost use Rattle.routines.specs.Hypotenuse as Hypotenuse;
 use numbers::narrow::narrow;
 use numbers::narrow::widen;
-use numbers::root::sqrt;
+use roots::sqrt;
 
 fn is_infinite(x: f32) -> bool
     ensures { λ r. ⌜ r ≡ Hypotenuse.infinite x ⌝ }

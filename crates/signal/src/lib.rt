@@ -14,7 +14,7 @@ use numbers::compare::abs;
 use numbers::compare::is_finite;
 use numbers::narrow::narrow;
 use numbers::narrow::widen;
-use numbers::root::sqrt;
+use roots::sqrt;
 use plain::Power;
 use plain::is_common;
 use plain::is_moderate;

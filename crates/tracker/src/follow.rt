@@ -14,7 +14,7 @@ use super::symbols::symbol;
 use complex::Complex32;
 use complex::power;
 use complex::subtracted;
-use numbers::root::sqrt32;
+use roots::sqrt32;
 
 // A tap moved by step x error x the symbol's conjugate.
 fn moved(tap: Complex32, step: f32, error: Complex32, s: Complex32) -> Complex32

@@ -3,7 +3,7 @@ use mathlib.Core.Path.{_≡_, sym, ap, _∙_, subst}
 use mathlib.Core.Bool.{Bool}
 use Prim.Native.Nat.{ℕ, _^_, _≤_, _<_}
 use lib.Pow.{pow-pos}
-use Rattle.numbers.specs.Shift.{away-le}
+use Rattle.patterns.specs.Shift.{away-le}
 use lib.Dec.{T}
 use lib.Ieee.{binary64, round, fits}
 use borrow.Author.Needs.{needs}

@@ -5,7 +5,7 @@ use Prim.Native.Nat.{ℕ, _^_, _<_, _≤_, _-_}
 use native.Mathlib.Omega.{arith}
 use lib.Pow.{pow-pos, pow-mono}
 use mir.Facts.{fits-of-lt}
-use Rattle.numbers.specs.Shift.{away-far, away-near, sum-fits}
+use Rattle.patterns.specs.Shift.{away-far, away-near, sum-fits}
 use Rattle.numbers.proofs.whole.shifted_away.Statement.{statement}
 use Rattle.numbers.proofs.whole.shifted_away.Tie as tie
 

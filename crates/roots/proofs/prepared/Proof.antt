@@ -1,0 +1,48 @@
+-- `roots::prepared` meets its contract. Assumes nothing.
+use lib.Ieee.{binary64, ofBits}
+use Rattle.numbers.specs.Laws.{no-nan}
+use Rattle.roots.proofs.Rooting.{nan-itself, zero-itself, sign-negative, infinity-itself, digits-read}
+use borrow.Author.Needs.{needs}
+use Rattle.roots.proofs.prepared.Statement.{statement}
+use Rattle.roots.proofs.prepared.Tie as tie
+
+returns : tie.Need-returns
+returns c = nan-itself binary64 (c .before .args .x) (c .if1 .taken)
+
+returns-2 : tie.Need-returns-2
+unfolding ofBits
+returns-2 c = zero-itself binary64 (c .before .before .args .x) (c .before .if1 .left) (c .if2 .taken)
+
+float-to-bits-b : tie.Need-float-to-bits-b
+float-to-bits-b c = no-nan (c .before .before .args .x) (c .before .if1 .left)
+
+returns-3 : tie.Need-returns-3
+unfolding ofBits
+returns-3 c = sign-negative binary64 (c .before .before .before .args .x) (c .before .before .if1 .left) (c .before .if2 .left) (c .if3 .taken)
+
+returns-4 : tie.Need-returns-4
+unfolding ofBits
+returns-4 c = infinity-itself binary64 (c .before .before .before .before .args .x) (c .before .before .before .if1 .left) (c .before .before .if2 .left) (c .before .if3 .left) (c .if4 .taken)
+
+digits-requires : tie.Need-digits-requires
+digits-requires c κs = search needs
+
+power-requires : tie.Need-power-requires
+power-requires c κs = search needs
+
+returns-5 : tie.Need-returns-5
+unfolding ofBits
+returns-5 c = digits-read binary64 (c .before .before .before .before .before .before .args .x) (c .before .before .before .before .before .if1 .left) (c .before .before .before .before .if2 .left) (c .before .digits .result) (c .power .result) (c .before .before .before .if3 .left) (c .before .before .if4 .left) (c .before .digits .ensures) (c .power .ensures)
+
+pub prepared-spec : {M : Type 1} → statement M
+prepared-spec =
+    tie.close
+    (tie.spec
+    returns
+    returns-2
+    float-to-bits-b
+    returns-3
+    returns-4
+    digits-requires
+    power-requires
+    returns-5)
