@@ -2,16 +2,17 @@
 use mathlib.Core.Path.{_≡_, refl, sym, ap, ap₂, _∙_, subst}
 use mathlib.Core.Logic.{⊎-elim}
 use mathlib.Core.List.{List}
-use mathlib.Core.Bool.{true, false}
+use mathlib.Core.Bool.{true, false, _&&_}
 use Prim.Native.Nat.{ℕ, zero, suc, _+_, _*_, _%_, _≤_, _<_}
 use native.Mathlib.Nat.{le-trans, le-of-eq, mul-assoc, mul-comm, mul-pos, mul-le-mul-right}
 use native.Mathlib.Omega.{arith}
-use lib.Dec.{T}
+use lib.Dec.{T, leb, leb→le}
 use lib.ListN.{getD}
 use lib.Ieee.{Float, nan, inf, fin, binary64, up, down, sum, add, mul, le, isNan, fits, ofBits}
-use lib.Ieee.Fits.{down-pos, add-fits, mul-fits}
+use lib.Ieee.Fits.{and-l, and-r, down-pos, add-fits, mul-fits}
 use lib.Ieee.Bits.{ofBits-fits, cond-no}
 use lib.Ieee.Scale.{finite}
+use denote.Floats.{passes}
 use Rattle.laws.specs.Turns.{turns}
 use Rattle.laws.specs.Places.{le-or}
 use Rattle.laws.specs.FloatOrder.{le-trans'}
@@ -20,7 +21,7 @@ use Rattle.laws.specs.FloatValues.{round-least}
 use Rattle.signal.specs.Signal.{power64}
 use Rattle.signal.specs.declared.plain.Power.{Power}
 use Rattle.signal.specs.Plain.{isPlain, roundOf}
-use Rattle.signal.specs.Powers.{heardOf, spanOf, noPower, powerStep}
+use Rattle.signal.specs.Powers.{heardOf, spanOf, noPower, powerStep, leastSpan, arePlain}
 use Rattle.signal.specs.Loops.{nextPoint, sumTurn}
 use Rattle.signal.specs.Quotients.{high100, square-is, signed-number}
 use Rattle.signal.specs.Spans.{both-least, plain-where}
@@ -138,6 +139,23 @@ heard-add g h a b G H = record {
   signless = signed-add g h (G .signless) (H .signless);
 }
 
+-- ---- the test of the powers
+pub record Told (w : Power) : Type 0 where
+  pub across : leastSpan ≤ w .across
+  pub up : leastSpan ≤ w .up
+  pub sum : T (le (w .sum) high100)
+
+pub told : (w : Power) → arePlain w ≡ true → Told w
+unfolding ofBits
+told w h =
+    let t = passes _ h in
+    let spans = and-l (leb leastSpan (w .across) && leb leastSpan (w .up)) (le (w .sum) high100) t in
+    record {
+      across = leb→le leastSpan (w .across) (and-l (leb leastSpan (w .across)) (leb leastSpan (w .up)) spans);
+      up = leb→le leastSpan (w .up) (and-r (leb leastSpan (w .across)) (leb leastSpan (w .up)) spans);
+      sum = and-r (leb leastSpan (w .across) && leb leastSpan (w .up)) (le (w .sum) high100) t;
+    }
+
 -- ---- the sum of powers
 module _ (re im : List Float) (start : ℕ) where
   abbrev pub powersTo : ℕ → Power
@@ -168,19 +186,19 @@ module _ (re im : List Float) (start : ℕ) where
   total-fits zero = ofBits-fits binary64 0
   total-fits (suc n) = add-fits binary64 (powersTo n .sum) (powerAt n)
 
-  -- ---- the parts are plain where the sum is not too large and no span too small
   abbrev Plain : ℕ → Type 0
   Plain k = (isPlain (x-at k) ≡ true) × (isPlain (y-at k) ≡ true)
 
-  pub all-plain : (n : ℕ) → 1124073471 ≤ powersTo n .across → 1124073471 ≤ powersTo n .up → T (le (powersTo n .sum) high100) → (k : ℕ) → k < n → Plain k
+  -- the parts are plain where no span is too small and the sum is not too large
+  pub all-plain : (n : ℕ) → Told (powersTo n) → (k : ℕ) → k < n → Plain k
   unfolding turns
-  all-plain zero a u t k l = absurd (omega arith)
-  all-plain (suc n) a u t k l =
-      let w = both-bounded (powersTo n .sum) (powerAt n) (heard-sum n .signless) (heard-power n .signless) (total-fits n) (add-fits binary64 _ _) t in
+  all-plain zero t k l = absurd (omega arith)
+  all-plain (suc n) t k l =
+      let w = both-bounded (powersTo n .sum) (powerAt n) (heard-sum n .signless) (heard-power n .signless) (total-fits n) (add-fits binary64 _ _) (t .sum) in
       let v = both-bounded (squareOf (x-at n)) (squareOf (y-at n)) (heard-square (x-at n) .signless) (heard-square (y-at n) .signless) (mul-fits binary64 _ _) (mul-fits binary64 _ _) (w .1) in
-      let b = both-least (powersTo n .across) (spanOf (heardOf (x-at n))) a in
-      let c = both-least (powersTo n .up) (spanOf (heardOf (y-at n))) u in
+      let a = both-least (powersTo n .across) (spanOf (heardOf (x-at n))) (t .across) in
+      let u = both-least (powersTo n .up) (spanOf (heardOf (y-at n))) (t .up) in
       ⊎-elim
-      (λ g. all-plain n (b .0) (c .0) (w .0) k g)
-      (λ g. subst Plain (sym g) (plain-where (x-at n) (b .1) (v .0), plain-where (y-at n) (c .1) (v .1)))
+      (λ g. all-plain n (record { across = a .0; up = u .0; sum = w .0 }) k g)
+      (λ g. subst Plain (sym g) (plain-where (x-at n) (a .1) (v .0), plain-where (y-at n) (u .1) (v .1)))
       (le-or k n (omega arith))

@@ -32,9 +32,13 @@ noPower = record { sum = ofBits binary64 0; across = 4294967295; up = 4294967295
 abbrev pub powerStep : List Float → List Float → ℕ → ℕ → Power → Power
 powerStep re im p k w = powerWith w (getD re p nan) (getD im p nan)
 
--- no span is under that of 2 ^ -60, and the sum is at most 2 ^ 100
+-- that of 2 ^ -60
+abbrev pub leastSpan : ℕ
+leastSpan = 1124073471
+
+-- no span is under the least, and the sum is at most 2 ^ 100
 abbrev pub arePlain : Power → Bool
-arePlain w = (leb 1124073471 (w .across) && leb 1124073471 (w .up)) && le (w .sum) (ofBits binary64 5057542381537067008)
+arePlain w = (leb leastSpan (w .across) && leb leastSpan (w .up)) && le (w .sum) (ofBits binary64 5057542381537067008)
 
 -- the powers of n points from a place on, and that every part is plain where they say so
 pub record PowerOf (re im : List Float) (from n : ℕ) (w : Power) : Type 0 where

@@ -15,10 +15,10 @@ use Rattle.laws.specs.FloatOrder.{or-l, or-r, →le}
 use Rattle.laws.specs.FloatValues.{no-inf, no-nan-fin}
 use Rattle.laws.specs.FloatParts.{digitsOf, powerOf, finite-field, float-value, digits-ge, digits-none}
 use Rattle.signal.specs.Plain.{isSized, isPlain}
-use Rattle.signal.specs.Powers.{heardOf, spanOf}
+use Rattle.signal.specs.Powers.{heardOf, spanOf, leastSpan}
 use Rattle.signal.specs.Quotients.{low60, high60, high100, no-digits, within-fin}
 
-pub both-least : (a b : ℕ) → 1124073471 ≤ min a b → (1124073471 ≤ a) × (1124073471 ≤ b)
+pub both-least : (a b : ℕ) → leastSpan ≤ min a b → (leastSpan ≤ a) × (leastSpan ≤ b)
 both-least a b h = (omega arith, omega arith)
 
 -- ---- a size of at least 2 ^ -60, and zero, by the order
@@ -70,11 +70,11 @@ module _ (s : Bool) (m : ℕ) (e : ℤ) (F : T (fits binary32 (fin s m e))) wher
   plain-fin i (inl h) = or-r (isSized (fin s m e) && inside) (eq (ofBits binary32 0) (fin s m e)) (zero-fin s m e (none h))
   plain-fin i (inr h) = or-l (isSized (fin s m e) && inside) (eq (ofBits binary32 0) (fin s m e)) (and-i (isSized (fin s m e)) inside (sized-fin s m e (some h)) i)
 
-span-held : (b : Bool) (k : ℕ) → 1124073471 ≤ cond b k 0 → T b × (1124073471 ≤ k)
+span-held : (b : Bool) (k : ℕ) → leastSpan ≤ cond b k 0 → T b × (leastSpan ≤ k)
 span-held true k h = (tt, h)
 span-held false k h = absurd (omega arith)
 
-span-bits : (k : ℕ) → k < 2147483648 → 1124073471 ≤ (k * 2 + 4294967295) % 4294967296 → (k ≡ 0) ⊎ (562036736 ≤ k)
+span-bits : (k : ℕ) → k < 2147483648 → leastSpan ≤ (k * 2 + 4294967295) % 4294967296 → (k ≡ 0) ⊎ (562036736 ≤ k)
 span-bits k l h =
     ⊎-elim
     (λ e. inl e)
@@ -85,7 +85,7 @@ span-bits k l h =
     (eq-zero-or-pos k)
 
 -- so a part is plain whose span is not too small, and whose square is not too large
-pub plain-where : (x : Float) → 1124073471 ≤ spanOf (heardOf x) → T (le (mul binary64 (heardOf x) (heardOf x)) high100) → isPlain x ≡ true
+pub plain-where : (x : Float) → leastSpan ≤ spanOf (heardOf x) → T (le (mul binary64 (heardOf x) (heardOf x)) high100) → isPlain x ≡ true
 unfolding isNan
 plain-where nan h k = absurd (unfold mul le in k)
 plain-where (inf true) h k = absurd (unfold mul le in k)

@@ -5,7 +5,7 @@ use mathlib.Core.Bool.{Bool, true, _&&_}
 use Prim.Native.Nat.{ℕ, _+_, _-_, _*_, _%_, _≤_, _<_, min}
 use native.Mathlib.Omega.{arith}
 use lib.ListN.{length, getD}
-use lib.Dec.{T, leb, leb→le}
+use lib.Dec.{T}
 use lib.Ieee.{Float, nan, binary64, ofBits, le}
 use lib.Ieee.Fits.{and-l, and-r}
 use lib.Ieee.Bits.{is-true}
@@ -15,26 +15,8 @@ use Rattle.signal.specs.declared.plain.Power.{Power}
 use Rattle.signal.specs.Signal.{Written, pointsFrom, power64, errorAt, writtenOf}
 use Rattle.signal.specs.Plain.{isPlain, isCommon, PlainAmplitude, PlainRun, PlainRound, sumStep, writeStep, runOf, roundOf}
 use Rattle.signal.specs.Powers.{heardOf, noPower, powerStep, arePlain, PowerOf}
-use Rattle.signal.specs.Quotients.{high100}
-use Rattle.signal.specs.Bounds.{powersTo, heard-sum, all-plain}
+use Rattle.signal.specs.Bounds.{powersTo, heard-sum, told, all-plain}
 use Rattle.signal.specs.Loops.{summed-from, written-from}
-
--- what the test of the powers says
-record Told (w : Power) : Type 0 where
-  across : 1124073471 ≤ w .across
-  up : 1124073471 ≤ w .up
-  sum : T (le (w .sum) high100)
-
-told : (w : Power) → arePlain w ≡ true → Told w
-unfolding ofBits
-told w h =
-    let t = passes _ h in
-    let spans = and-l (leb 1124073471 (w .across) && leb 1124073471 (w .up)) (le (w .sum) high100) t in
-    record {
-      across = leb→le 1124073471 (w .across) (and-l (leb 1124073471 (w .across)) (leb 1124073471 (w .up)) spans);
-      up = leb→le 1124073471 (w .up) (and-r (leb 1124073471 (w .across)) (leb 1124073471 (w .up)) spans);
-      sum = and-r (leb 1124073471 (w .across) && leb 1124073471 (w .up)) (le (w .sum) high100) t;
-    }
 
 module _ (start count first : ℕ) (inside : start < 1024) (most : count ≤ 1024) (is-first : first ≡ min count (1024 - start)) where
   early : (k : ℕ) → k < first → start + k ≡ (start + k) % 1024
@@ -86,14 +68,13 @@ module _ (start count first : ℕ) (inside : start < 1024) (most : count ≤ 102
       → middle ≡ turns (runOf (powerStep re im) start 0) first noPower
       → w ≡ turns (runOf (powerStep re im) 0 0) (count - first) middle
       → PowerOf re im start count w
-  unfolding ofBits
   power-runs re im middle w is-middle is-last =
       let e : w ≡ powersTo re im start count = is-last ∙ ap (turns (runOf (powerStep re im) 0 first) (count - first)) is-middle ∙ round-runs (powerStep re im) noPower in
-      let plain : arePlain (powersTo re im start count) ≡ true → (k : ℕ) → k < count → (isPlain (getD re ((start + k) % 1024) nan) ≡ true) × (isPlain (getD im ((start + k) % 1024) nan) ≡ true)
-      = λ h. let t = told (powersTo re im start count) h in all-plain re im start count (t .across) (t .up) (t .sum) in
       record {
         sum = ap (λ (p : Power). p .sum) e ∙ heard-sum re im start count .same ∙ ap heardOf (summed-from re im start power64 count);
-        plain = λ h. let P = plain (ap arePlain (sym e) ∙ h) in record { real = λ k l. P k l .0; imaginary = λ k l. P k l .1 };
+        plain = λ h.
+            let P = all-plain re im start count (told (powersTo re im start count) (ap arePlain (sym e) ∙ h)) in
+            record { real = λ k l. P k l .0; imaginary = λ k l. P k l .1 };
       }
 
 -- ---- the test of the common case
