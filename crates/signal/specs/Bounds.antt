@@ -1,33 +1,32 @@
--- No square of a sum of squares is above the sum. Assumes nothing.
-use mathlib.Core.Path.{sym, ap, _∙_, subst}
+-- The sum of powers is the definition's but for a NaN, and no square in it is above it. Assumes nothing.
+use mathlib.Core.Path.{_≡_, refl, sym, ap, ap₂, _∙_, subst}
 use mathlib.Core.Logic.{⊎-elim}
 use mathlib.Core.List.{List}
-use mathlib.Core.Bool.{true, false, not}
+use mathlib.Core.Bool.{true, false, _&&_}
 use Prim.Native.Nat.{ℕ, zero, suc, _+_, _*_, _%_, _≤_, _<_}
 use native.Mathlib.Nat.{le-trans, le-of-eq, mul-assoc, mul-comm, mul-pos, mul-le-mul-right}
 use native.Mathlib.Omega.{arith}
-use lib.Dec.{T}
+use lib.Dec.{T, leb, leb→le}
 use lib.ListN.{getD}
 use lib.Ieee.{Float, nan, inf, fin, binary64, up, down, sum, add, mul, le, isNan, fits, ofBits}
-use lib.Ieee.Fits.{down-pos, add-fits, mul-fits}
-use lib.Ieee.Bits.{ofBits-fits}
+use lib.Ieee.Fits.{and-l, and-r, down-pos, add-fits, mul-fits}
+use lib.Ieee.Bits.{ofBits-fits, cond-no}
 use lib.Ieee.Scale.{finite}
+use denote.Floats.{passes}
 use Rattle.laws.specs.Turns.{turns}
 use Rattle.laws.specs.Places.{le-or}
 use Rattle.laws.specs.FloatOrder.{le-trans'}
 use Rattle.laws.specs.FloatRounding.{signed, round-signed}
 use Rattle.laws.specs.FloatValues.{round-least}
 use Rattle.signal.specs.Signal.{power64}
+use Rattle.signal.specs.declared.plain.Power.{Power}
+use Rattle.signal.specs.Plain.{isPlain, roundOf}
+use Rattle.signal.specs.Powers.{heardOf, spanOf, noPower, powerStep, leastSpan, arePlain}
 use Rattle.signal.specs.Loops.{nextPoint, sumTurn}
-use Rattle.signal.specs.Quotients.{high100, square-is}
+use Rattle.signal.specs.Quotients.{high100, square-is, signed-number}
+use Rattle.signal.specs.Spans.{both-least, plain-where}
 
--- ---- squares and sums without a sign
-signed-square : (x : Float) → T (not (isNan x)) → T (signed false (mul binary64 x x))
-signed-square nan n = absurd (unfold isNan in n)
-signed-square (inf true) n = unfold mul in tt
-signed-square (inf false) n = unfold mul in tt
-signed-square (fin s m e) n = subst (λ (v : Float). T (signed false v)) (sym (square-is s m e)) (round-signed false binary64 (m * up e * (m * up e)) (down e * down e))
-
+-- ---- sums of what has no sign
 signed-add : (a b : Float) → T (signed false a) → T (signed false b) → T (signed false (add binary64 a b))
 signed-add nan b p q = absurd p
 signed-add (inf true) b p q = absurd p
@@ -93,44 +92,113 @@ both-bounded a b p q F G h =
     let P = parts a b p q F G f in
     (le-trans' a c high100 (P .left-finite) f tt (P .left) h, le-trans' b c high100 (P .right-finite) f tt (P .right) h)
 
+-- ---- a NaN taken for infinity: the answer is infinity where it would be a NaN, and else it is the same
+pub record Heard (h a : Float) : Type 0 where
+  pub same : h ≡ heardOf a
+  pub signless : T (signed false h)
+
+number-same : (a : Float) → T (signed false a) → a ≡ heardOf a
+number-same a p = sym (cond-no (isNan a) (inf false) a (signed-number false a p))
+
+heard-square : (x : Float) → Heard (mul binary64 (heardOf x) (heardOf x)) (mul binary64 x x)
+unfolding isNan mul
+heard-square nan = record { same = refl; signless = tt }
+heard-square (inf true) = record { same = refl; signless = tt }
+heard-square (inf false) = record { same = refl; signless = tt }
+heard-square (fin s m e) =
+    let p = subst (λ (v : Float). T (signed false v)) (sym (square-is s m e)) (round-signed false binary64 (m * up e * (m * up e)) (down e * down e)) in
+    record { same = number-same (mul binary64 (fin s m e) (fin s m e)) p; signless = p }
+
+infinite-add : (b : Float) → T (signed false b) → add binary64 (inf false) b ≡ inf false
+unfolding add
+infinite-add nan q = absurd q
+infinite-add (inf true) q = absurd q
+infinite-add (inf false) q = refl
+infinite-add (fin s m e) q = refl
+
+add-infinite : (a : Float) → T (signed false a) → add binary64 a (inf false) ≡ inf false
+unfolding add
+add-infinite nan p = absurd p
+add-infinite (inf true) p = absurd p
+add-infinite (inf false) p = refl
+add-infinite (fin s m e) p = refl
+
+add-same : (a b : Float) → T (signed false (heardOf a)) → T (signed false (heardOf b)) → add binary64 (heardOf a) (heardOf b) ≡ heardOf (add binary64 a b)
+unfolding isNan add
+add-same nan b p q = infinite-add (heardOf b) q
+add-same (inf s) nan p q = add-infinite (inf s) p
+add-same (fin s m e) nan p q = add-infinite (fin s m e) p
+add-same (inf s) (inf t) p q = number-same (add binary64 (inf s) (inf t)) (signed-add (inf s) (inf t) p q)
+add-same (inf s) (fin t n d) p q = number-same (add binary64 (inf s) (fin t n d)) (signed-add (inf s) (fin t n d) p q)
+add-same (fin s m e) (inf t) p q = number-same (add binary64 (fin s m e) (inf t)) (signed-add (fin s m e) (inf t) p q)
+add-same (fin s m e) (fin t n d) p q = number-same (add binary64 (fin s m e) (fin t n d)) (signed-add (fin s m e) (fin t n d) p q)
+
+heard-add : (g h a b : Float) → Heard g a → Heard h b → Heard (add binary64 g h) (add binary64 a b)
+heard-add g h a b G H = record {
+  same = ap₂ (add binary64) (G .same) (H .same) ∙ add-same a b (subst (λ (v : Float). T (signed false v)) (G .same) (G .signless)) (subst (λ (v : Float). T (signed false v)) (H .same) (H .signless));
+  signless = signed-add g h (G .signless) (H .signless);
+}
+
+-- ---- the test of the powers
+pub record Told (w : Power) : Type 0 where
+  pub across : leastSpan ≤ w .across
+  pub up : leastSpan ≤ w .up
+  pub sum : T (le (w .sum) high100)
+
+pub told : (w : Power) → arePlain w ≡ true → Told w
+unfolding ofBits
+told w h =
+    let t = passes _ h in
+    let spans = and-l (leb leastSpan (w .across) && leb leastSpan (w .up)) (le (w .sum) high100) t in
+    record {
+      across = leb→le leastSpan (w .across) (and-l (leb leastSpan (w .across)) (leb leastSpan (w .up)) spans);
+      up = leb→le leastSpan (w .up) (and-r (leb leastSpan (w .across)) (leb leastSpan (w .up)) spans);
+      sum = and-r (leb leastSpan (w .across) && leb leastSpan (w .up)) (le (w .sum) high100) t;
+    }
+
 -- ---- the sum of powers
 module _ (re im : List Float) (start : ℕ) where
+  abbrev pub powersTo : ℕ → Power
+  powersTo n = turns (roundOf (powerStep re im) start) n noPower
+
   abbrev x-at : ℕ → Float
   x-at k = getD re ((start + k) % 1024) nan
 
   abbrev y-at : ℕ → Float
   y-at k = getD im ((start + k) % 1024) nan
 
-  abbrev Number : ℕ → Type 0
-  Number k = T (not (isNan (x-at k))) × T (not (isNan (y-at k)))
+  abbrev squareOf : Float → Float
+  squareOf x = mul binary64 (heardOf x) (heardOf x)
 
-  abbrev total : ℕ → Float
-  total n = turns (sumTurn re im start power64) n (ofBits binary64 0)
+  abbrev powerAt : ℕ → Float
+  powerAt k = add binary64 (squareOf (x-at k)) (squareOf (y-at k))
 
-  power-signed : (k : ℕ) → Number k → T (signed false (power64 (nextPoint re im start k)))
-  power-signed k h = signed-add (mul binary64 (x-at k) (x-at k)) (mul binary64 (y-at k) (y-at k)) (signed-square (x-at k) (h .0)) (signed-square (y-at k) (h .1))
+  heard-power : (k : ℕ) → Heard (powerAt k) (power64 (nextPoint re im start k))
+  heard-power k = heard-add (squareOf (x-at k)) (squareOf (y-at k)) (mul binary64 (x-at k) (x-at k)) (mul binary64 (y-at k) (y-at k)) (heard-square (x-at k)) (heard-square (y-at k))
 
-  total-signed : (n : ℕ) → ((k : ℕ) → k < n → Number k) → T (signed false (total n))
+  pub heard-sum : (n : ℕ) → Heard (powersTo n .sum) (turns (sumTurn re im start power64) n (ofBits binary64 0))
   unfolding turns
-  total-signed zero h = unfold ofBits in tt
-  total-signed (suc n) h = signed-add (total n) (power64 (nextPoint re im start n)) (total-signed n (λ k l. h k (omega arith))) (power-signed n (h n (omega arith)))
+  heard-sum zero = record { same = unfold ofBits isNan in refl; signless = unfold ofBits in tt }
+  heard-sum (suc n) = heard-add (powersTo n .sum) (powerAt n) (turns (sumTurn re im start power64) n (ofBits binary64 0)) (power64 (nextPoint re im start n)) (heard-sum n) (heard-power n)
 
-  total-fits : (n : ℕ) → T (fits binary64 (total n))
+  total-fits : (n : ℕ) → T (fits binary64 (powersTo n .sum))
   unfolding turns
   total-fits zero = ofBits-fits binary64 0
-  total-fits (suc n) = add-fits binary64 (total n) (power64 (nextPoint re im start n))
+  total-fits (suc n) = add-fits binary64 (powersTo n .sum) (powerAt n)
 
-  abbrev Bounded : ℕ → Type 0
-  Bounded k = T (le (mul binary64 (x-at k) (x-at k)) high100) × T (le (mul binary64 (y-at k) (y-at k)) high100)
+  abbrev Plain : ℕ → Type 0
+  Plain k = (isPlain (x-at k) ≡ true) × (isPlain (y-at k) ≡ true)
 
-  pub squares-bounded : (n : ℕ) → ((k : ℕ) → k < n → Number k) → T (le (total n) high100) → (k : ℕ) → k < n → Bounded k
+  -- the parts are plain where no span is too small and the sum is not too large
+  pub all-plain : (n : ℕ) → Told (powersTo n) → (k : ℕ) → k < n → Plain k
   unfolding turns
-  squares-bounded zero h t k l = absurd (omega arith)
-  squares-bounded (suc n) h t k l =
-      let p = power64 (nextPoint re im start n) in
-      let H = h n (omega arith) in
-      let w = both-bounded (total n) p (total-signed n (λ k l. h k (omega arith))) (power-signed n H) (total-fits n) (add-fits binary64 _ _) t in
+  all-plain zero t k l = absurd (omega arith)
+  all-plain (suc n) t k l =
+      let w = both-bounded (powersTo n .sum) (powerAt n) (heard-sum n .signless) (heard-power n .signless) (total-fits n) (add-fits binary64 _ _) (t .sum) in
+      let v = both-bounded (squareOf (x-at n)) (squareOf (y-at n)) (heard-square (x-at n) .signless) (heard-square (y-at n) .signless) (mul-fits binary64 _ _) (mul-fits binary64 _ _) (w .1) in
+      let a = both-least (powersTo n .across) (spanOf (heardOf (x-at n))) (t .across) in
+      let u = both-least (powersTo n .up) (spanOf (heardOf (y-at n))) (t .up) in
       ⊎-elim
-      (λ g. squares-bounded n (λ k l. h k (omega arith)) (w .0) k g)
-      (λ g. subst Bounded (sym g) (both-bounded (mul binary64 (x-at n) (x-at n)) (mul binary64 (y-at n) (y-at n)) (signed-square (x-at n) (H .0)) (signed-square (y-at n) (H .1)) (mul-fits binary64 _ _) (mul-fits binary64 _ _) (w .1)))
+      (λ g. all-plain n (record { across = a .0; up = u .0; sum = w .0 }) k g)
+      (λ g. subst Plain (sym g) (plain-where (x-at n) (a .1) (v .0), plain-where (y-at n) (u .1) (v .1)))
       (le-or k n (omega arith))

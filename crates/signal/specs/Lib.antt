@@ -3,6 +3,7 @@ pub mod Plain
 pub mod Powers
 pub mod Loops
 pub mod Quotients
+pub mod Spans
 pub mod Bounds
 pub mod Windows
 pub mod Laws

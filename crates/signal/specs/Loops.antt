@@ -1,20 +1,22 @@
 -- What the loops over the ring compute, said of the list of points they pass. Assumes nothing.
 use mathlib.Core.Path.{_≡_, refl, ap, _∙_}
 use mathlib.Core.List.{List, [], _∷_, _++_, foldl, foldl-append}
-use mathlib.Core.Bool.{Bool, true, false, cond}
+use mathlib.Core.Bool.{Bool, true, false, cond, not, _&&_}
 use Prim.Native.Nat.{ℕ, zero, suc, _+_, _-_, _*_, _/_, _%_, _≤_, min}
 use native.Mathlib.Nat.{mod-lt}
 use native.Mathlib.Omega.{arith}
 use lib.ListN.{length, set}
-use lib.Ieee.{Float, binary32, binary64, ofBits, add, mul, div}
+use lib.Dec.{eqb}
+use lib.Ieee.{Float, nan, inf, fin, binary32, binary64, ofBits, add, mul, div, lt, isNan}
 use Rattle.laws.specs.Turns.{turns}
 use Rattle.laws.specs.Branches.{cond-yes, cond-no}
 use Rattle.laws.specs.Places.{upto, upto-at, upto-same, length-upto, pairs, turns-pairs}
 use Rattle.laws.specs.Ring.{latest}
-use Rattle.numbers.specs.Numbers.{convert}
+use Rattle.numbers.specs.Numbers.{convert, isFinite}
 use Rattle.numbers.specs.Root.{sqrtOf}
 use Rattle.complex.specs.declared.Complex32.{Complex32}
 use Rattle.signal.specs.Signal.{View, Written, outside, pointAt, ringOf, lastOf, pointsFrom, summed, meanOf, power64, errorAt, partsOf, writtenOf, isUsable, Read, nothing, shownAs, shownOf, readOf}
+use Rattle.signal.specs.Powers.{heardOf}
 
 -- a loop over places is a fold over the list of what stands there
 pub fold-upto : {A B : Type 0} (h : B → A → B) (g : ℕ → A) (n : ℕ) (b : B) → turns (λ k a. h a (g k)) n b ≡ foldl h b (upto g n)
@@ -71,14 +73,40 @@ last-from v n =
     upto-same _ _ n (λ i l. upto-at (pointAt (v .real) (v .imaginary)) 1024 _ outside (mod-lt _ (omega arith)))
 
 -- ---- the whole read: what it computes, step by step, is the definition's
+infinite-over : (y : Float) → isFinite (div binary64 (inf false) y) ≡ false
+unfolding div isFinite
+infinite-over nan = refl
+infinite-over (inf t) = refl
+infinite-over (fin t n d) = refl
+
+unusable : (n : ℕ) (power : Float) → isFinite power ≡ false → isUsable n power ≡ false
+unusable n power h = rw h (go (not (eqb n 0)) (not (lt power (ofBits binary64 4427486594234968593))))
+  where
+    go : (b c : Bool) → (b && false && c) ≡ false
+    go true c = refl
+    go false c = refl
+
+-- where the sum is a NaN, neither it nor infinity in its place is usable
+heard-shown : (n : ℕ) (sum : Float) (f : Float → Read) (r : Read) → cond (isUsable n (meanOf (heardOf sum) n)) (f (meanOf (heardOf sum) n)) r ≡ cond (isUsable n (meanOf sum n)) (f (meanOf sum n)) r
+unfolding isNan
+heard-shown n nan f r = rw (unusable n (meanOf (inf false) n) (infinite-over _), unusable n (meanOf nan n) (unfold div isFinite in refl))
+heard-shown n (inf s) f r = refl
+heard-shown n (fin s m e) f r = refl
+
 module _ (v : View) (l : List Float) (n : ℕ) (sum power : Float) (usable : Bool) (is-count : n ≡ min (v .place .count) (length l / 2)) where
   abbrev pub shownPoints : List Complex32
   shownPoints = pointsFrom (v .real) (v .imaginary) ((v .place .head + 1024 - n) % 1024) n
 
-  module _ (is-sum : sum ≡ summed power64 shownPoints) (is-power : power ≡ meanOf sum n) (is-usable : usable ≡ isUsable n power) where
-    read-is : cond usable (shownAs n (writtenOf (sqrtOf binary64 power) shownPoints l)) (nothing l) ≡ readOf v l
-    unfolding shownOf
-    read-is = rw (← is-count, last-from v n, length-from (v .real) (v .imaginary) ((v .place .head + 1024 - n) % 1024) n, ← is-sum, ← is-power, ← is-usable)
+  abbrev shownWith : Float → Read
+  shownWith p = shownAs n (writtenOf (sqrtOf binary64 p) shownPoints l)
+
+  shown-is : cond (isUsable n (meanOf (summed power64 shownPoints) n)) (shownWith (meanOf (summed power64 shownPoints) n)) (nothing l) ≡ readOf v l
+  unfolding shownOf
+  shown-is = rw (← is-count, last-from v n, length-from (v .real) (v .imaginary) ((v .place .head + 1024 - n) % 1024) n)
+
+  module _ (is-sum : sum ≡ heardOf (summed power64 shownPoints)) (is-power : power ≡ meanOf sum n) (is-usable : usable ≡ isUsable n power) where
+    read-is : cond usable (shownWith power) (nothing l) ≡ readOf v l
+    read-is = rw (is-usable, is-power, is-sum) (heard-shown n (summed power64 shownPoints) shownWith (nothing l) ∙ shown-is)
 
     pub read-found : (root errors mean size : Float) (output : List Float) → usable ≡ true → root ≡ sqrtOf binary64 power
         → _≡_ {A = Written} (record { errors = errors; output = output }) (writtenOf root shownPoints l)

@@ -2,9 +2,9 @@
 use mathlib.Core.Path.{_≡_}
 use mathlib.Core.Logic.{_⊎_}
 use mathlib.Core.List.{List}
-use mathlib.Core.Bool.{Bool, true, cond, not, _&&_, _||_}
+use mathlib.Core.Bool.{Bool, true, not, _&&_, _||_}
 use Prim.Native.Nat.{ℕ, _+_, _*_, _%_, _<_, _≤_}
-use lib.Dec.{T, eqb}
+use lib.Dec.{T}
 use lib.ListN.{getD, set}
 use lib.Ieee.{Float, nan, binary32, binary64, ofBits, toBits, neg, add, div, le, eq, isNan, fits}
 use Rattle.numbers.specs.Numbers.{convert}
@@ -21,23 +21,13 @@ most = ofBits binary32 1568669696
 abbrev pub isSized : Float → Bool
 isSized x = le least x || le x (neg least)
 
-abbrev pub everydayOf : Float → Float
-everydayOf x = cond (isSized x) x (ofBits binary32 0)
-
 -- of a size from 2 ^ -60 to 2 ^ 60, or zero
 abbrev pub isPlain : Float → Bool
 isPlain x = (isSized x && (le x most && le (neg most) x)) || eq (ofBits binary32 0) x
 
--- 1 where the everyday number is another one
-abbrev pub rarityOf : Float → ℕ
-rarityOf x = cond (eq (everydayOf x) x) 0 1
-
--- no part was counted, and the sum of powers is at most 2 ^ 100
-abbrev pub isModerate : ℕ → Float → Bool
-isModerate rare sum = eqb rare 0 && le sum (ofBits binary64 5057542381537067008)
-
-abbrev pub isCommon : ℕ → Float → Bool
-isCommon rare amplitude = (eqb rare 0 && le (ofBits binary64 4336966441157787648) amplitude) && le amplitude (ofBits binary64 4877398396442247168)
+-- the parts are plain, and the amplitude too
+abbrev pub isCommon : Bool → Float → Bool
+isCommon plain amplitude = (plain && le (ofBits binary64 4336966441157787648) amplitude) && le amplitude (ofBits binary64 4877398396442247168)
 
 pub record PlainAmplitude (a : Float) : Type 0 where
   pub lower : T (le (ofBits binary64 4336966441157787648) a)

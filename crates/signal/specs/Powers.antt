@@ -1,36 +1,46 @@
--- The sum of powers, with a count of the parts that are not plain. Definitions only.
+-- The sum of powers, and what beside it tells that every part is plain. Definitions only.
 use mathlib.Core.Path.{_≡_}
 use mathlib.Core.List.{List}
-use Prim.Native.Nat.{ℕ, _+_, _≤_}
+use mathlib.Core.Bool.{Bool, true, false, cond, _&&_}
+use Prim.Native.Nat.{ℕ, _+_, _*_, _%_, min}
 use lib.ListN.{getD}
-use lib.Dec.{T}
-use lib.Ieee.{Float, nan, binary64, ofBits, add, le}
+use lib.Dec.{leb}
+use lib.Ieee.{Float, nan, inf, binary32, binary64, ofBits, toBits, add, le, isNan, fits}
 use Rattle.signal.specs.declared.plain.Power.{Power}
 use Rattle.signal.specs.Signal.{power64, pointsFrom, summed}
-use Rattle.signal.specs.Plain.{everydayOf, rarityOf, PlainRound}
+use Rattle.signal.specs.Plain.{PlainRound}
+
+-- a NaN is taken for infinity
+abbrev pub heardOf : Float → Float
+heardOf x = cond (isNan x) (inf false) x
+
+-- twice the pattern of an f32's size, less 1: the larger the size, the larger it is, and of a zero it is the largest
+abbrev pub spanOf : Float → ℕ
+spanOf x = cond (fits binary32 x) ((toBits binary32 x % 2147483648 * 2 + 4294967295) % 4294967296) 0
 
 -- one point more
 abbrev pub powerWith : Power → Float → Float → Power
 powerWith w x y = record {
-  sum = add binary64 (w .sum) (power64 (record { real = everydayOf x; imaginary = everydayOf y }));
-  across = w .across + rarityOf x;
-  up = w .up + rarityOf y;
+  sum = add binary64 (w .sum) (power64 (record { real = heardOf x; imaginary = heardOf y }));
+  across = min (w .across) (spanOf (heardOf x));
+  up = min (w .up) (spanOf (heardOf y));
 }
 
 abbrev pub noPower : Power
-noPower = record { sum = ofBits binary64 0; across = 0; up = 0 }
+noPower = record { sum = ofBits binary64 0; across = 4294967295; up = 4294967295 }
 
 abbrev pub powerStep : List Float → List Float → ℕ → ℕ → Power → Power
 powerStep re im p k w = powerWith w (getD re p nan) (getD im p nan)
 
--- the powers of n points from a place on, where no part was counted, and that these are plain then if the sum is at most 2 ^ 100
-pub record PowerWhere (re im : List Float) (from n : ℕ) (w : Power) : Type 0 where
-  pub few : w .across + w .up ≤ 4096
-  pub sum : w .across + w .up ≡ 0 → w .sum ≡ summed power64 (pointsFrom re im from n)
-  pub plain : w .across + w .up ≡ 0 → T (le (w .sum) (ofBits binary64 5057542381537067008)) → PlainRound re im from n
+-- that of 2 ^ -60
+abbrev pub leastSpan : ℕ
+leastSpan = 1124073471
 
--- the powers in any case
+-- no span is under the least, and the sum is at most 2 ^ 100
+abbrev pub arePlain : Power → Bool
+arePlain w = (leb leastSpan (w .across) && leb leastSpan (w .up)) && le (w .sum) (ofBits binary64 5057542381537067008)
+
+-- the powers of n points from a place on, and that every part is plain where they say so
 pub record PowerOf (re im : List Float) (from n : ℕ) (w : Power) : Type 0 where
-  pub few : w .across + w .up ≤ 4096
-  pub sum : w .sum ≡ summed power64 (pointsFrom re im from n)
-  pub plain : w .across + w .up ≡ 0 → PlainRound re im from n
+  pub sum : w .sum ≡ heardOf (summed power64 (pointsFrom re im from n))
+  pub plain : arePlain w ≡ true → PlainRound re im from n

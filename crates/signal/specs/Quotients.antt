@@ -11,9 +11,8 @@ use lib.Pow.{pow-add, pow-pos, pow-mono, pow-lt, shl-lt}
 use borrow.Author.Tests.{le-leb, lt-leb}
 use lib.Ieee.{Float, nan, inf, fin, binary32, binary64, up, down, unlike, round, neg, mul, div, le, eq, isNan, fits, ofBits, toBits, nanBits}
 use lib.Ieee.Fits.{and-i, and-l, and-r, up-pos, down-pos, round-fits, inf-fits, nan-fits, fits-widens}
-use lib.Ieee.Bits.{ofBits-toBits, ofBits-fits, toBits-lt, nanBits-is, is-true, cond-no}
+use lib.Ieee.Bits.{ofBits-toBits, ofBits-fits, toBits-lt, nanBits-is, cond-no}
 use lib.Ieee.Exact.{HasValue}
-use denote.Floats.{passes}
 use lib.Ieee.Positive.{first-pos}
 use Rattle.laws.specs.FloatOrder.{or-split, le→, →le, le-trans', between-finite, le→cross}
 use Rattle.laws.specs.Ring.{lt-or-ge}
@@ -24,7 +23,7 @@ use Rattle.laws.specs.FloatPack.{value-unique}
 use Rattle.numbers.specs.Numbers.{absOf, convert}
 use Rattle.numbers.specs.Laws.{abs-pattern, convert-value}
 use Rattle.numbers.proofs.Narrowing.{Everyday, kept, kept-lt, everyday-is}
-use Rattle.signal.specs.Plain.{isSized, everydayOf, isPlain, rarityOf, PlainAmplitude, Usual}
+use Rattle.signal.specs.Plain.{isPlain, PlainAmplitude, Usual}
 
 -- ---- sizes from 2 ^ -60 to 2 ^ 60
 
@@ -50,13 +49,13 @@ most-both : (s : Bool) (M E : ℕ) → cond s 0 M * 1 + 0 * E ≤ 11529215046068
 most-both true M E h k = omega arith
 most-both false M E h k = omega arith
 
-no-digits : (m u : ℕ) → 0 < u → m * u ≡ 0 → m ≡ 0
+pub no-digits : (m u : ℕ) → 0 < u → m * u ≡ 0 → m ≡ 0
 no-digits m u U h = ⊎-elim (λ e. e) (λ p. absurd (lt-irrefl 0 (subst (λ (x : ℕ). 0 < x) h (mul-pos p U)))) (eq-zero-or-pos m)
 
-abbrev low60 : Float
+abbrev pub low60 : Float
 low60 = fin false 1 (negsuc 59)
 
-abbrev high60 : Float
+abbrev pub high60 : Float
 high60 = fin false 1 (pos 60)
 
 module _ (s : Bool) (m : ℕ) (e : ℤ) where
@@ -112,54 +111,6 @@ plain-number x h = go x (plain-size x h)
     go (inf s) h = absurd h
     go (fin s m e) h = no-nan-fin s m e
 
--- ---- what is taken for a part is a number, and has the part's square where it equals it
-sized-number : (x : Float) → T (isSized x) → T (not (isNan x))
-unfolding ofBits neg le isNan
-sized-number nan h = absurd h
-sized-number (inf s) h = tt
-sized-number (fin s m e) h = tt
-
-pub everyday-number : (x : Float) → T (not (isNan (everydayOf x)))
-everyday-number x = go (isSized x) (sized-number x)
-  where
-    go : (b : Bool) → (T b → T (not (isNan x))) → T (not (isNan (cond b x (ofBits binary32 0))))
-    go true h = h tt
-    go false h = unfold ofBits isNan in tt
-
-alike : (s : Bool) → unlike s s ≡ false
-alike true = refl
-alike false = refl
-
-square-fin : (s : Bool) (m : ℕ) (e : ℤ) → m ≡ 0 → mul binary64 (fin false 0 (pos 0)) (fin false 0 (pos 0)) ≡ mul binary64 (fin s m e) (fin s m e)
-unfolding mul
-square-fin s m e z =
-    round-zero binary64 false 1 (pow-pos 0)
-    ∙ sym (ap (λ (t : Bool). round binary64 t (m * up e * (m * up e)) (down e * down e)) (alike s)
-    ∙ ap (λ (n : ℕ). round binary64 false n (down e * down e)) (ap (λ (k : ℕ). k * up e * (m * up e)) z ∙ ap (λ (k : ℕ). k * (m * up e)) (zero-mul (up e)) ∙ zero-mul (m * up e))
-    ∙ round-zero binary64 false (down e * down e) (mul-pos (down-pos e) (down-pos e)))
-
-zero-square : (x : Float) → T (eq (fin false 0 (pos 0)) x) → mul binary64 (fin false 0 (pos 0)) (fin false 0 (pos 0)) ≡ mul binary64 x x
-zero-square nan h = absurd (unfold eq in h)
-zero-square (inf s) h = absurd (unfold eq in h)
-zero-square (fin s m e) h = square-fin s m e (zero-of s m e h)
-
-counted-none : (b : Bool) → _≡_ {A = ℕ} (cond b 0 1) 0 → b ≡ true
-counted-none true h = refl
-counted-none false h = absurd (omega arith)
-
-eq-number : (u x : Float) → T (eq u x) → T (not (isNan x))
-unfolding eq isNan
-eq-number nan x h = absurd h
-eq-number (inf t) nan h = absurd h
-eq-number (inf t) (inf s) h = tt
-eq-number (inf t) (fin s m e) h = tt
-eq-number (fin t n d) nan h = absurd h
-eq-number (fin t n d) (inf s) h = tt
-eq-number (fin t n d) (fin s m e) h = tt
-
-pub number-where : (x : Float) → rarityOf x ≡ 0 → T (not (isNan x))
-number-where x h = eq-number (everydayOf x) x (passes _ (counted-none (eq (everydayOf x) x) h))
-
 -- ---- a square of at most 2 ^ 100 is that of a size of at most 2 ^ 60
 abbrev pub high100 : Float
 high100 = fin false 1 (pos 100)
@@ -178,6 +129,10 @@ wide-square M E h = le-trans (le-of-eq (swap M E)) (le-trans (mul-le-mul h h) (l
 
     one : (n : ℕ) → n ≡ n * 1
     one n = omega arith
+
+alike : (s : Bool) → unlike s s ≡ false
+alike true = refl
+alike false = refl
 
 below-most : (s : Bool) (M E : ℕ) → M ≤ 1152921504606846976 * E → cond s 0 M * 1 + 0 * E ≤ 1152921504606846976 * E + cond s M 0 * 1
 below-most true M E h = omega arith
@@ -203,34 +158,13 @@ module _ (s : Bool) (m : ℕ) (e : ℤ) where
       false-order : T (le (fin false 1 (pos 120)) (fin false 1 (pos 100))) → ⊥
       false-order t = unfold le in t
 
-  within-fin : T (le (mul binary64 (fin s m e) (fin s m e)) high100) → T (le (fin s m e) high60 && le (neg high60) (fin s m e))
+  pub within-fin : T (le (mul binary64 (fin s m e) (fin s m e)) high100) → T (le (fin s m e) high60 && le (neg high60) (fin s m e))
   unfolding neg
   within-fin h =
       let M = ⊎-elim (λ g. absurd (not-wide g h)) (λ g. g) (lt-or-ge (1152921504606846976 * down e) (m * up e)) in
       and-i (le (fin s m e) high60) (le (neg high60) (fin s m e))
       (→le (fin s m e) high60 tt tt (below-most s (m * up e) (down e) M))
       (→le (neg high60) (fin s m e) tt tt (above-most s (m * up e) (down e) M))
-
-within : (x : Float) → T (not (isNan x)) → T (le (mul binary64 x x) high100) → T (le x high60 && le (neg high60) x)
-within nan n h = absurd (unfold isNan in n)
-within (inf true) n h = absurd (unfold mul le in h)
-within (inf false) n h = absurd (unfold mul le in h)
-within (fin s m e) n h = within-fin s m e h
-
-pub plain-where : (x : Float) → rarityOf x ≡ 0 → T (le (mul binary64 x x) high100) → isPlain x ≡ true
-unfolding ofBits
-plain-where x h k = go (isSized x) h
-  where
-    go : (b : Bool) → _≡_ {A = ℕ} (cond (eq (cond b x (ofBits binary32 0)) x) 0 1) 0 → ((b && (le x high60 && le (neg high60) x)) || eq (ofBits binary32 0) x) ≡ true
-    go true g = ap (λ (t : Bool). t || eq (ofBits binary32 0) x) (is-true (le x high60 && le (neg high60) x) (within x (number-where x h) k))
-    go false g = counted-none (eq (ofBits binary32 0) x) g
-
-pub square-where : (x : Float) → rarityOf x ≡ 0 → mul binary64 (everydayOf x) (everydayOf x) ≡ mul binary64 x x
-square-where x h = go (isSized x) h
-  where
-    go : (b : Bool) → _≡_ {A = ℕ} (cond (eq (cond b x (ofBits binary32 0)) x) 0 1) 0 → mul binary64 (cond b x (ofBits binary32 0)) (cond b x (ofBits binary32 0)) ≡ mul binary64 x x
-    go true h = refl
-    go false h = unfold ofBits in zero-square x (passes _ (counted-none (eq (ofBits binary32 0) x) h))
 
 -- ---- an amplitude is above zero too
 pub record Amplitude (s : Bool) (m : ℕ) (e : ℤ) : Type 0 where
@@ -343,7 +277,7 @@ abs-round : (s : Bool) (a c : ℕ) → absOf (round binary64 s a c) ≡ round bi
 abs-round true a c = ap absOf (round-neg binary64 a c) ∙ abs-neg (round binary64 false a c) (round-signed false binary64 a c)
 abs-round false a c = abs-self (round binary64 false a c) (round-signed false binary64 a c)
 
-signed-number : (s : Bool) (x : Float) → T (signed s x) → T (not (isNan x))
+pub signed-number : (s : Bool) (x : Float) → T (signed s x) → T (not (isNan x))
 unfolding isNan
 signed-number s nan p = absurd p
 signed-number s (inf t) p = tt
@@ -424,9 +358,6 @@ number-exact x F n = and-i (fits binary64 x) (not (isNan x)) (fits-widens x F) n
 
 pub plain-exact : (x : Float) → T (fits binary32 x) → T (isPlain x) → T (fits binary64 x && not (isNan x))
 plain-exact x F h = number-exact x F (plain-number x h)
-
-pub everyday-exact : (x u : Float) → u ≡ everydayOf x → T (fits binary32 u) → T (fits binary64 u && not (isNan u))
-everyday-exact x u e F = number-exact u F (subst (λ (v : Float). T (not (isNan v))) (sym e) (everyday-number x))
 
 pub usual-quotient : (x a : Float) → T (isPlain x) → PlainAmplitude a → Usual (div binary64 x a)
 usual-quotient x a h k = go x a (plain-size x h) (amplitude-size a k)

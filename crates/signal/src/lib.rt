@@ -1,11 +1,12 @@
 // The constellation view: the last 1,024 differential points, for display alone; nothing of it goes
 // back into the receiver. Its ring is two planes that the caller lends, real and imaginary parts.
 ghost use mathlib.Core.Path.{_≡_};
+ghost use mathlib.Core.Bool.{true};
 ghost use Prim.Native.Nat.{_+_, _*_, _<_, _≤_, min};
 ghost use lib.ListN.{length};
-ghost use Rattle.signal.specs.Signal.{viewOf, Written, Read, freshPlace, rotatedOf, pairedOf, pushedOf, pointsFrom, power64, summed, meanOf, missedBy, writtenOf, isUsable, readOf};
+ghost use Rattle.signal.specs.Signal.{viewOf, Written, Read, freshPlace, rotatedOf, pairedOf, pushedOf, pointsFrom, meanOf, missedBy, writtenOf, isUsable, readOf};
 ghost use Rattle.signal.specs.Plain.{PlainRound, PlainAmplitude};
-ghost use Rattle.signal.specs.Powers.{PowerWhere, PowerOf};
+ghost use Rattle.signal.specs.Powers.{PowerOf};
 
 mod plain;
 
@@ -16,8 +17,8 @@ use numbers::narrow::narrow;
 use numbers::narrow::widen;
 use roots::sqrt;
 use plain::Power;
+use plain::are_plain;
 use plain::is_common;
-use plain::is_moderate;
 use plain::power_run;
 use plain::write_run;
 
@@ -116,59 +117,21 @@ pub fn push(
     }
 }
 
-// The powers of `count` points from `start` on, added up in that order.
-fn power_points(real: &[f32; 1024], imaginary: &[f32; 1024], start: usize, count: usize) -> f64
-    requires { ⌜ start < 1024 ⌝ }
-    requires { ⌜ count ≤ 1024 ⌝ }
-    ensures { λ r. ⌜ r ≡ summed power64 (pointsFrom (now (real .entry)) (now (imaginary .entry)) start count) ⌝ }
-{
-    let mut sum = 0.0f64;
-    let mut i = 0;
-    while i < count {
-        let at = (start + i) % 1024;
-        let x = widen(real[at]);
-        let y = widen(imaginary[at]);
-        sum = sum + (x * x + y * y);
-        i += 1;
-    }
-    sum
-}
-
-// The same where every part is plain, and how many are not: up to the ring's end, and then from its
-// beginning.
-fn power_plain(real: &[f32; 1024], imaginary: &[f32; 1024], start: usize, count: usize) -> Power
-    requires { ⌜ start < 1024 ⌝ }
-    requires { ⌜ count ≤ 1024 ⌝ }
-    ensures { λ r. ⌜ PowerWhere (now (real .entry)) (now (imaginary .entry)) start count r ⌝ }
-{
-    let first = least(count, 1024 - start);
-    let none = Power {
-        sum: 0.0,
-        across: 0,
-        up: 0,
-    };
-    let early = power_run(real, imaginary, start, first, none);
-    power_run(real, imaginary, 0, count - first, early)
-}
-
-// Either way.
+// The powers of `count` points from `start` on, added up in that order: up to the ring's end, and then
+// from its beginning.
 fn power_sum(real: &[f32; 1024], imaginary: &[f32; 1024], start: usize, count: usize) -> Power
     requires { ⌜ start < 1024 ⌝ }
     requires { ⌜ count ≤ 1024 ⌝ }
     ensures { λ r. ⌜ PowerOf (now (real .entry)) (now (imaginary .entry)) start count r ⌝ }
 {
-    let power = power_plain(real, imaginary, start, count);
-    let rare = power.across + power.up;
-    if is_moderate(rare, power.sum) {
-        power
-    } else {
-        let sum = power_points(real, imaginary, start, count);
-        Power {
-            sum,
-            across: 1,
-            up: 0,
-        }
-    }
+    let first = least(count, 1024 - start);
+    let none = Power {
+        sum: 0.0,
+        across: 0xffff_ffff,
+        up: 0xffff_ffff,
+    };
+    let early = power_run(real, imaginary, start, first, none);
+    power_run(real, imaginary, 0, count - first, early)
 }
 
 fn mean(sum: f64, count: usize) -> f64
@@ -254,23 +217,23 @@ fn write_plain(
     )
 }
 
-// Either way, by how many parts were not plain.
+// Either way, by whether the parts are plain.
 fn write(
     real: &[f32; 1024],
     imaginary: &[f32; 1024],
     start: usize,
     count: usize,
     amplitude: f64,
-    rare: u32,
+    plain: bool,
     output: &mut [f32],
 ) -> f64
     requires { ⌜ start < 1024 ⌝ }
     requires { ⌜ count ≤ 1024 ⌝ }
     requires { ⌜ count * 2 ≤ length (now output) ⌝ }
-    requires { ⌜ (rare ≡ 0 → PlainRound (now real) (now imaginary) start count) ⌝ }
+    requires { ⌜ (plain ≡ true → PlainRound (now real) (now imaginary) start count) ⌝ }
     ensures { λ r. ⌜ _≡_ {A = Written} (record { errors = r; output = now (output .exit) }) (writtenOf amplitude (pointsFrom (now (real .entry)) (now (imaginary .entry)) start count) (now (output .entry))) ⌝ }
 {
-    if is_common(rare, amplitude) {
+    if is_common(plain, amplitude) {
         write_plain(real, imaginary, start, count, amplitude, output)
     } else {
         write_points(real, imaginary, start, count, amplitude, output)
@@ -298,10 +261,10 @@ pub fn read(
     let count = least(place.count, output.len() / 2);
     let start = (place.head + 1024 - count) % 1024;
     let powers = power_sum(real, imaginary, start, count);
-    let rare = powers.across + powers.up;
+    let plain = are_plain(powers);
     let power = mean(powers.sum, count);
     if is_usable(count, power) {
-        let sum = write(real, imaginary, start, count, sqrt(power), rare, output);
+        let sum = write(real, imaginary, start, count, sqrt(power), plain, output);
         Reading {
             count,
             error: 100.0 * sqrt(mean(sum, count)),

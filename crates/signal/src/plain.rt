@@ -1,20 +1,22 @@
-// The common case of a read: every part is zero or of a size that a division by the amplitude keeps
-// within the f32 range. Then no part is a NaN, a quotient is narrowed by rounding its bits in place,
-// and the loops have no branch, so that a compiler can run them on several points at once.
+// The loops of a read, without a branch, so that a compiler can run them on several points at once. The
+// powers of any parts are added up, and beside the sum stands whether every part is plain: zero or of a
+// size that a division by the amplitude keeps within the f32 range. Then no part is a NaN, and a quotient
+// is narrowed by rounding its bits in place.
 ghost use mathlib.Core.Path.{_≡_};
-ghost use mathlib.Core.Bool.{true, cond};
-ghost use Prim.Native.Nat.{_+_, _*_, _<_, _≤_};
-ghost use lib.Ieee.{binary32, binary64, div, eq};
+ghost use mathlib.Core.Bool.{true, not};
+ghost use Prim.Native.Nat.{_+_, _*_, _<_, _≤_, min};
+ghost use lib.Dec.{T};
+ghost use lib.Ieee.{binary32, binary64, div, isNan, fits};
 ghost use lib.ListN.{length};
 ghost use Rattle.laws.specs.Turns.{turns};
 ghost use Rattle.numbers.specs.Numbers.{absOf, convert};
 ghost use Rattle.signal.specs.Signal.{errorAt};
-ghost use Rattle.signal.specs.Plain.{isSized, everydayOf, isPlain, Usual, PlainRun, PlainAmplitude, isModerate, isCommon, errorFrom, sumStep, writeStep, runOf};
-ghost use Rattle.signal.specs.Powers.{powerWith, powerStep};
+ghost use Rattle.signal.specs.Plain.{isPlain, Usual, PlainRun, PlainAmplitude, isCommon, errorFrom, sumStep, writeStep, runOf};
+ghost use Rattle.signal.specs.Powers.{heardOf, spanOf, powerWith, powerStep, arePlain};
 use super::IDEAL;
 
-// 2 ^ -60, and of a sum of powers 2 ^ 100: no part of it is above 2 ^ 60 then.
-const LEAST: f32 = 8.6736174e-19;
+// The span of 2 ^ -60, and of a sum of powers 2 ^ 100: no part of it is above 2 ^ 60 then.
+const LEAST_SPAN: u32 = 0x42ff_ffff;
 
 const MOST_SUM: f64 = 1.2676506002282294e30;
 
@@ -22,29 +24,32 @@ const LEAST_AMPLITUDE: f64 = 8.673617379884035e-19;
 
 const MOST_AMPLITUDE: f64 = 1.152921504606847e18;
 
-fn is_sized(x: f32) -> bool
-    ensures { λ r. ⌜ r ≡ isSized x ⌝ }
+// A NaN is taken for infinity: a sum that would be a NaN is infinite then, and is not used either.
+fn heard(x: f32) -> f32
+    ensures same { λ r. ⌜ r ≡ heardOf x ⌝ }
+    ensures number { λ r. ⌜ T (not (isNan r)) ⌝ }
 {
-    (x >= LEAST) | (x <= -LEAST)
+    if x != x { 1.0 / 0.0 } else { x }
 }
 
-// x where its size is 2 ^ -60 or more, and else 0.
-fn everyday(x: f32) -> f32
-    ensures { λ r. ⌜ r ≡ everydayOf x ⌝ }
+// Twice the bits of the size, less 1: the larger the size, the larger it is, and of a zero, where it
+// wraps, it is the largest.
+fn span(x: f32) -> u32
+    requires { ⌜ T (fits binary32 x) ⌝ }
+    requires { ⌜ T (not (isNan x)) ⌝ }
+    ensures { λ r. ⌜ r ≡ spanOf x ⌝ }
 {
-    if is_sized(x) { x } else { 0.0 }
+    std::num::wrapping_sub_u32(f32::to_bits(x) % 0x8000_0000 * 2, 1)
 }
 
-// 1 where two numbers differ.
-fn differing(u: f32, x: f32) -> u32
-    ensures same { λ r. ⌜ r ≡ cond (eq u x) 0 1 ⌝ }
-    ensures few { λ r. ⌜ r ≤ 1 ⌝ }
+fn smaller(a: u32, b: u32) -> u32
+    ensures { λ r. ⌜ r ≡ min a b ⌝ }
 {
-    if u == x { 0 } else { 1 }
+    if a < b { a } else { b }
 }
 
-// A sum of powers, and how many real and imaginary parts on the way were not plain: those were taken
-// for 0. The two counts are apart, as the parts are, so that they go side by side.
+// A sum of powers, and the least span of the real and of the imaginary parts on the way. The two are
+// apart, as the parts are, so that they go side by side.
 pub struct Power {
     pub sum: f64,
     pub across: u32,
@@ -52,18 +57,16 @@ pub struct Power {
 }
 
 fn with_point(power: Power, x: f32, y: f32) -> Power
-    requires { ⌜ power .across ≤ 2048 ⌝ }
-    requires { ⌜ power .up ≤ 2048 ⌝ }
     ensures { λ r. ⌜ r ≡ powerWith power x y ⌝ }
 {
-    let a = everyday(x);
-    let b = everyday(y);
+    let a = heard(x);
+    let b = heard(y);
     let u = a as f64;
     let v = b as f64;
     Power {
         sum: power.sum + (u * u + v * v),
-        across: power.across + differing(a, x),
-        up: power.up + differing(b, y),
+        across: smaller(power.across, span(a)),
+        up: smaller(power.up, span(b)),
     }
 }
 
@@ -76,11 +79,7 @@ pub fn power_run(
     before: Power,
 ) -> Power
     requires { ⌜ from + count ≤ 1024 ⌝ }
-    requires { ⌜ before .across ≤ 1024 ⌝ }
-    requires { ⌜ before .up ≤ 1024 ⌝ }
-    ensures same { λ r. ⌜ r ≡ turns (runOf (powerStep (now (real .entry)) (now (imaginary .entry))) from 0) count before ⌝ }
-    ensures few { λ r. ⌜ r .across ≤ before .across + count ⌝ }
-    ensures few_up { λ r. ⌜ r .up ≤ before .up + count ⌝ }
+    ensures { λ r. ⌜ r ≡ turns (runOf (powerStep (now (real .entry)) (now (imaginary .entry))) from 0) count before ⌝ }
 {
     let mut power = before;
     let mut i = 0;
@@ -91,18 +90,18 @@ pub fn power_run(
     power
 }
 
-// Whether nothing rare was counted, and the sum is not too large.
-pub fn is_moderate(rare: u32, sum: f64) -> bool
-    ensures { λ r. ⌜ r ≡ isModerate rare sum ⌝ }
+// Whether every part is plain: none is too small, and the sum is not too large.
+pub fn are_plain(power: Power) -> bool
+    ensures { λ r. ⌜ r ≡ arePlain power ⌝ }
 {
-    (rare == 0) & (sum <= MOST_SUM)
+    (power.across >= LEAST_SPAN) & (power.up >= LEAST_SPAN) & (power.sum <= MOST_SUM)
 }
 
-// Whether nothing rare was counted, and the amplitude is plain too.
-pub fn is_common(rare: u32, amplitude: f64) -> bool
-    ensures { λ r. ⌜ r ≡ isCommon rare amplitude ⌝ }
+// Whether the parts are plain, and the amplitude too.
+pub fn is_common(plain: bool, amplitude: f64) -> bool
+    ensures { λ r. ⌜ r ≡ isCommon plain amplitude ⌝ }
 {
-    (rare == 0) & (amplitude >= LEAST_AMPLITUDE) & (amplitude <= MOST_AMPLITUDE)
+    plain & (amplitude >= LEAST_AMPLITUDE) & (amplitude <= MOST_AMPLITUDE)
 }
 
 // The sign's bit is cleared.

@@ -1,35 +1,34 @@
 -- `signal::power_sum` meets its contract. Assumes nothing.
-use mathlib.Core.Path.{sym, _∙_}
-use Rattle.signal.specs.Windows.{power-common, power-rare}
+use Rattle.signal.specs.Windows.{power-runs}
 use borrow.Author.Needs.{needs}
 use Rattle.signal.proofs.power_sum.Statement.{statement}
 use Rattle.signal.proofs.power_sum.Tie as tie
 
-power-plain-requires : tie.Need-power-plain-requires
-power-plain-requires c κs = search needs
+sub-least : tie.Need-sub-least
+sub-least c = search needs
 
-add-rare : tie.Need-add-rare
-add-rare c = search needs
+least-requires : tie.Need-least-requires
+least-requires c κs = search needs
 
-is-moderate-requires : tie.Need-is-moderate-requires
-is-moderate-requires c κs = search needs
+power-run-requires : tie.Need-power-run-requires
+power-run-requires c κs = search needs
 
-power-points-requires : tie.Need-power-points-requires
-power-points-requires c κs = search needs
+sub-power-run : tie.Need-sub-power-run
+sub-power-run c = search needs
+
+power-run-requires-2 : tie.Need-power-run-requires-2
+power-run-requires-2 c κs = search needs
 
 returns : tie.Need-returns
-returns c = power-common _ _ _ _ _ (c .before .before .before .power-plain .ensures) (sym (c .before .is-moderate .ensures) ∙ c .if1 .taken)
-
-returns-2 : tie.Need-returns-2
-returns-2 c = power-rare _ _ _ _ (c .before .before .before .before .power-plain .result) _ (c .power-points .ensures)
+returns c = let a = c .before .before .before in power-runs (a .args .start) (a .args .count) _ (a .pre .0) (a .pre .1) (c .before .before .least .ensures) _ _ _ _ (c .before .power-run .ensures) (c .power-run2 .ensures)
 
 pub power-sum-spec : {M : Type 1} → statement M
 power-sum-spec =
     tie.close
     (tie.spec
-    power-plain-requires
-    add-rare
-    is-moderate-requires
-    power-points-requires
-    returns
-    returns-2)
+    sub-least
+    least-requires
+    power-run-requires
+    sub-power-run
+    power-run-requires-2
+    returns)

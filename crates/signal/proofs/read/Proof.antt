@@ -1,4 +1,5 @@
 -- `signal::read` meets its contract. Assumes nothing.
+use mathlib.Core.Path.{sym, _∙_}
 use Rattle.signal.specs.Loops.{read-found, read-nothing}
 use borrow.Author.Needs.{needs}
 use Rattle.signal.proofs.read.Statement.{statement}
@@ -16,8 +17,8 @@ sub-start c = search needs
 power-sum-requires : tie.Need-power-sum-requires
 power-sum-requires c κs = search needs
 
-add-rare : tie.Need-add-rare
-add-rare c = search needs
+are-plain-requires : tie.Need-are-plain-requires
+are-plain-requires c κs = search needs
 
 mean-requires : tie.Need-mean-requires
 mean-requires c κs = search needs
@@ -29,7 +30,7 @@ sqrt-requires : tie.Need-sqrt-requires
 sqrt-requires c κs = search needs
 
 write-requires : tie.Need-write-requires
-write-requires c κs = (search needs, (search needs, (search needs, c .before .before .before .before .before .before .power-sum .ensures .plain)))
+write-requires c κs = (search needs, (search needs, (search needs, λ h. c .before .before .before .before .before .before .power-sum .ensures .plain (sym (c .before .before .before .before .before .are-plain .ensures) ∙ h))))
 
 mean-requires-2 : tie.Need-mean-requires-2
 mean-requires-2 c κs = search needs
@@ -55,7 +56,7 @@ read-spec =
     add-start
     sub-start
     power-sum-requires
-    add-rare
+    are-plain-requires
     mean-requires
     is-usable-requires
     sqrt-requires

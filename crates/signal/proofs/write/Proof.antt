@@ -1,6 +1,6 @@
 -- `signal::write` meets its contract. Assumes nothing.
 use mathlib.Core.Path.{sym, _∙_}
-use Rattle.signal.specs.Windows.{none-counted, plain-amplitude}
+use Rattle.signal.specs.Windows.{common-plain, plain-amplitude}
 use borrow.Author.Needs.{needs}
 use Rattle.signal.proofs.write.Statement.{statement}
 use Rattle.signal.proofs.write.Tie as tie
@@ -12,7 +12,7 @@ write-plain-requires : tie.Need-write-plain-requires
 write-plain-requires c κs =
     let a = c .before .before .before .before in
     let common = sym (c .before .before .is-common .ensures) ∙ c .before .if1 .taken in
-    (a .pre .0, (a .pre .1 .0, (search needs, (a .pre .1 .1 .1 (none-counted (a .args .rare) (a .args .amplitude) common), plain-amplitude (a .args .rare) (a .args .amplitude) common))))
+    (a .pre .0, (a .pre .1 .0, (search needs, (a .pre .1 .1 .1 (common-plain (a .args .plain) (a .args .amplitude) common), plain-amplitude (a .args .plain) (a .args .amplitude) common))))
 
 write-points-requires : tie.Need-write-points-requires
 write-points-requires c κs = search needs

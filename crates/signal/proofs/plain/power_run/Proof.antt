@@ -1,23 +1,21 @@
 -- `signal::plain::power_run` meets its contract. Assumes nothing.
-use Prim.Native.Nat.{_+_, _-_, _≤_}
+use Prim.Native.Nat.{_-_, _≤_}
 use mathlib.Core.Path.{_≡_, _∙_}
-use native.Mathlib.Omega.{arith}
 use Rattle.laws.specs.Turns.{turns, turns-start, turns-step, turns-end}
 use Rattle.signal.specs.Plain.{runOf}
 use Rattle.signal.specs.Powers.{powerStep}
-use Rattle.signal.specs.Windows.{few-more}
 use borrow.Author.Needs.{needs}
 use Rattle.signal.proofs.plain.power_run.Statement.{statement}
 use Rattle.signal.proofs.plain.power_run.Tie as tie
 
 abbrev Inv-loop : tie.InvT-loop
-Inv-loop real imaginary from count power₀ i₀ power i = (i ≤ count) × (power .across ≤ power₀ .across + i) × (power .up ≤ power₀ .up + i) × (power ≡ turns (runOf (powerStep real imaginary) from 0) i power₀)
+Inv-loop real imaginary from count power₀ i₀ power i = (i ≤ count) × (power ≡ turns (runOf (powerStep real imaginary) from 0) i power₀)
 
 abbrev μ-loop : tie.MeasureT-loop
 μ-loop real imaginary from count power₀ i₀ power i = count - i
 
 loop-holds : tie.Need-loop-holds Inv-loop μ-loop
-loop-holds c = (search needs, search needs, search needs, turns-start _ _)
+loop-holds c = (search needs, turns-start _ _)
 
 add-with-point : tie.Need-add-with-point Inv-loop μ-loop
 add-with-point c = search needs
@@ -47,13 +45,10 @@ loop-less : tie.Need-loop-less Inv-loop μ-loop
 loop-less c = search needs
 
 loop-again : tie.Need-loop-again Inv-loop μ-loop
-loop-again c =
-    let l = c .before .before .before .before .loop .inv in
-    let m = few-more _ _ _ _ _ _ (c .with-point .ensures) (l .1) (l .2) in
-    (search needs, omega (arith, m .0), omega (arith, m .1), c .with-point .ensures ∙ turns-step _ _ _ _ (l .3))
+loop-again c = (search needs, c .with-point .ensures ∙ turns-step _ _ _ _ (c .before .before .before .before .loop .inv .1))
 
 returns : tie.Need-returns Inv-loop μ-loop
-returns c = (turns-end _ _ _ _ _ (c .before .loop .inv .3) (search needs) (search needs), (search needs, search needs))
+returns c = turns-end _ _ _ _ _ (c .before .loop .inv .1) (search needs) (search needs)
 
 pub power-run-spec : {M : Type 1} → statement M
 power-run-spec =

@@ -1,46 +1,46 @@
 -- `signal::plain::with_point` meets its contract. Assumes nothing.
-use Rattle.signal.specs.Quotients.{everyday-exact}
+use Rattle.signal.specs.Quotients.{number-exact}
 use borrow.Author.Needs.{needs}
 use Rattle.signal.proofs.plain.with_point.Statement.{statement}
 use Rattle.signal.proofs.plain.with_point.Tie as tie
 
-everyday-requires : tie.Need-everyday-requires
-everyday-requires c κs = search needs
+heard-requires : tie.Need-heard-requires
+heard-requires c κs = search needs
 
-everyday-requires-2 : tie.Need-everyday-requires-2
-everyday-requires-2 c κs = search needs
+heard-requires-2 : tie.Need-heard-requires-2
+heard-requires-2 c κs = search needs
 
 float-to-float-u : tie.Need-float-to-float-u
-float-to-float-u c = everyday-exact _ _ (c .before .before .everyday .ensures) (c .row-known .given)
+float-to-float-u c = number-exact _ (c .row-known .given) (c .before .before .heard .ensures .1)
 
 float-to-float-v : tie.Need-float-to-float-v
-float-to-float-v c = everyday-exact _ _ (c .before .before .everyday2 .ensures) (c .row-known2 .given)
+float-to-float-v c = number-exact _ (c .row-known2 .given) (c .before .before .heard2 .ensures .1)
 
-differing-requires : tie.Need-differing-requires
-differing-requires c κs = search needs
+span-requires : tie.Need-span-requires
+span-requires c κs = search needs
 
-add-t13 : tie.Need-add-t13
-add-t13 c = search needs
+smaller-requires : tie.Need-smaller-requires
+smaller-requires c κs = search needs
 
-differing-requires-2 : tie.Need-differing-requires-2
-differing-requires-2 c κs = search needs
+span-requires-2 : tie.Need-span-requires-2
+span-requires-2 c κs = search needs
 
-add-t15 : tie.Need-add-t15
-add-t15 c = search needs
+smaller-requires-2 : tie.Need-smaller-requires-2
+smaller-requires-2 c κs = search needs
 
 returns : tie.Need-returns
-returns c = rw (c .before .differing2 .ensures .0, c .before .before .before .differing .ensures .0, c .before .before .before .before .before .before .before .everyday2 .ensures, c .before .before .before .before .before .before .before .before .everyday .ensures)
+returns c = rw (c .smaller2 .ensures, c .before .span2 .ensures, c .before .before .smaller .ensures, c .before .before .before .span .ensures, c .before .before .before .before .before .before .before .heard2 .ensures .0, c .before .before .before .before .before .before .before .before .heard .ensures .0)
 
 pub with-point-spec : {M : Type 1} → statement M
 with-point-spec =
     tie.close
     (tie.spec
-    everyday-requires
-    everyday-requires-2
+    heard-requires
+    heard-requires-2
     float-to-float-u
     float-to-float-v
-    differing-requires
-    add-t13
-    differing-requires-2
-    add-t15
+    span-requires
+    smaller-requires
+    span-requires-2
+    smaller-requires-2
     returns)

@@ -1,0 +1,17 @@
+-- `signal::plain::heard` meets its contract. Assumes nothing.
+use mathlib.Core.Path.{refl, sym, _∙_}
+use lib.Ieee.{ofBits, div, isNan}
+use Rattle.laws.specs.Branches.{cond-yes, cond-no}
+use Rattle.numbers.specs.Laws.{ne-self, no-nan}
+use Rattle.signal.proofs.plain.heard.Statement.{statement}
+use Rattle.signal.proofs.plain.heard.Tie as tie
+
+returns : tie.Need-returns
+unfolding ofBits div isNan
+returns c = (cond-yes _ _ _ (sym (ne-self _) ∙ c .if1 .taken), tt)
+
+returns-2 : tie.Need-returns-2
+returns-2 c = (cond-no _ _ _ _ (sym (ne-self _) ∙ c .if1 .left) refl, no-nan _ (c .if1 .left))
+
+pub heard-spec : {M : Type 1} → statement M
+heard-spec = tie.close (tie.spec returns returns-2)
