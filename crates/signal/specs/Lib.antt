@@ -1,8 +1,10 @@
 pub mod Signal
 pub mod Plain
 pub mod Powers
+pub mod Rows
 pub mod Loops
 pub mod Quotients
 pub mod Bounds
 pub mod Windows
+pub mod RowLaws
 pub mod Laws

@@ -114,7 +114,7 @@ fn size(x: f64) -> f64
 }
 
 // The last 29 digits are rounded off in place, to the even one at a tie; what is left is an f32.
-fn narrow(x: f64) -> f32
+pub fn narrow(x: f64) -> f32
     requires { ⌜ Usual x ⌝ }
     ensures { λ r. ⌜ r ≡ convert binary32 x ⌝ }
 {
@@ -124,7 +124,7 @@ fn narrow(x: f64) -> f32
 }
 
 // A part over the amplitude.
-fn quotient(x: f32, amplitude: f64) -> f64
+pub fn quotient(x: f32, amplitude: f64) -> f64
     requires { ⌜ isPlain x ≡ true ⌝ }
     requires { ⌜ PlainAmplitude amplitude ⌝ }
     ensures same { λ r. ⌜ r ≡ div binary64 x amplitude ⌝ }
@@ -134,7 +134,7 @@ fn quotient(x: f32, amplitude: f64) -> f64
 }
 
 // The squared error of a point whose parts are given.
-fn error(x: f64, y: f64) -> f64
+pub fn error(x: f64, y: f64) -> f64
     requires { ⌜ Usual x ⌝ }
     requires { ⌜ Usual y ⌝ }
     ensures { λ r. ⌜ r ≡ errorFrom x y ⌝ }
@@ -142,37 +142,4 @@ fn error(x: f64, y: f64) -> f64
     let across = size(x) - IDEAL;
     let up = size(y) - IDEAL;
     across * across + up * up
-}
-
-// Writes `count` points from the place `from` on, after `done` points, and adds their errors to the
-// sum before them.
-pub fn write_run(
-    real: &[f32; 1024],
-    imaginary: &[f32; 1024],
-    from: usize,
-    done: usize,
-    count: usize,
-    amplitude: f64,
-    output: &mut [f32],
-    before: f64,
-) -> f64
-    requires { ⌜ from + count ≤ 1024 ⌝ }
-    requires { ⌜ done + count ≤ 1024 ⌝ }
-    requires { ⌜ (done + count) * 2 ≤ length (now output) ⌝ }
-    requires { ⌜ PlainRun (now real) (now imaginary) from count ⌝ }
-    requires { ⌜ PlainAmplitude amplitude ⌝ }
-    ensures errors { λ r. ⌜ r ≡ turns (runOf (sumStep (now (real .entry)) (now (imaginary .entry)) (errorAt amplitude)) from done) count before ⌝ }
-    ensures written { λ r. ⌜ now (output .exit) ≡ turns (runOf (writeStep (now (real .entry)) (now (imaginary .entry)) amplitude) from done) count (now (output .entry)) ⌝ }
-{
-    let mut sum = before;
-    let mut i = 0;
-    while i < count {
-        let x = quotient(real[from + i], amplitude);
-        let y = quotient(imaginary[from + i], amplitude);
-        sum = sum + error(x, y);
-        output[(done + i) * 2] = narrow(x);
-        output[(done + i) * 2 + 1] = narrow(y);
-        i += 1;
-    }
-    sum
 }
