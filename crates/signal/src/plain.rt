@@ -5,11 +5,9 @@ ghost use mathlib.Core.Path.{_≡_};
 ghost use mathlib.Core.Bool.{true, cond};
 ghost use Prim.Native.Nat.{_+_, _*_, _<_, _≤_};
 ghost use lib.Ieee.{binary32, binary64, div, eq};
-ghost use lib.ListN.{length};
 ghost use Rattle.laws.specs.Turns.{turns};
 ghost use Rattle.numbers.specs.Numbers.{absOf, convert};
-ghost use Rattle.signal.specs.Signal.{errorAt};
-ghost use Rattle.signal.specs.Plain.{isSized, everydayOf, isPlain, Usual, PlainRun, PlainAmplitude, isModerate, isCommon, errorFrom, sumStep, writeStep, runOf};
+ghost use Rattle.signal.specs.Plain.{isSized, everydayOf, isPlain, Usual, PlainAmplitude, isModerate, isCommon, errorFrom, runOf};
 ghost use Rattle.signal.specs.Powers.{powerWith, powerStep};
 use super::IDEAL;
 
