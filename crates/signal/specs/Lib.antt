@@ -1,9 +1,11 @@
 pub mod Signal
 pub mod Plain
 pub mod Powers
+pub mod Rows
 pub mod Loops
 pub mod Quotients
 pub mod Spans
 pub mod Bounds
 pub mod Windows
+pub mod RowLaws
 pub mod Laws

@@ -9,6 +9,7 @@ ghost use Rattle.signal.specs.Plain.{PlainRound, PlainAmplitude};
 ghost use Rattle.signal.specs.Powers.{PowerOf};
 
 mod plain;
+mod rows;
 
 use complex::Complex32;
 use numbers::compare::abs;
@@ -20,7 +21,7 @@ use plain::Power;
 use plain::are_plain;
 use plain::is_common;
 use plain::power_run;
-use plain::write_run;
+use rows::write_run;
 
 // 1 / sqrt(2), in f32 and in f64.
 const ROTATION: f32 = 0.70710677;

@@ -1,17 +1,15 @@
-// The loops of a read, without a branch, so that a compiler can run them on several points at once. The
-// powers of any parts are added up, and beside the sum stands whether every part is plain: zero or of a
-// size that a division by the amplitude keeps within the f32 range. Then no part is a NaN, and a quotient
-// is narrowed by rounding its bits in place.
+// The power pass of a read, and the numbers of its write pass, without a branch, so that a compiler can
+// run them on several points at once. The powers of any parts are added up, and beside the sum stands
+// whether every part is plain: zero or of a size that a division by the amplitude keeps within the f32
+// range. Then no part is a NaN, and a quotient is narrowed by rounding its bits in place.
 ghost use mathlib.Core.Path.{_≡_};
 ghost use mathlib.Core.Bool.{true, not};
-ghost use Prim.Native.Nat.{_+_, _*_, _<_, _≤_, min};
+ghost use Prim.Native.Nat.{_+_, _≤_, min};
 ghost use lib.Dec.{T};
 ghost use lib.Ieee.{binary32, binary64, div, isNan, fits};
-ghost use lib.ListN.{length};
 ghost use Rattle.laws.specs.Turns.{turns};
 ghost use Rattle.numbers.specs.Numbers.{absOf, convert};
-ghost use Rattle.signal.specs.Signal.{errorAt};
-ghost use Rattle.signal.specs.Plain.{isPlain, Usual, PlainRun, PlainAmplitude, isCommon, errorFrom, sumStep, writeStep, runOf};
+ghost use Rattle.signal.specs.Plain.{isPlain, Usual, PlainAmplitude, isCommon, errorFrom, runOf};
 ghost use Rattle.signal.specs.Powers.{heardOf, spanOf, powerWith, powerStep, arePlain};
 use super::IDEAL;
 
@@ -113,7 +111,7 @@ fn size(x: f64) -> f64
 }
 
 // The last 29 digits are rounded off in place, to the even one at a tie; what is left is an f32.
-fn narrow(x: f64) -> f32
+pub fn narrow(x: f64) -> f32
     requires { ⌜ Usual x ⌝ }
     ensures { λ r. ⌜ r ≡ convert binary32 x ⌝ }
 {
@@ -123,7 +121,7 @@ fn narrow(x: f64) -> f32
 }
 
 // A part over the amplitude.
-fn quotient(x: f32, amplitude: f64) -> f64
+pub fn quotient(x: f32, amplitude: f64) -> f64
     requires { ⌜ isPlain x ≡ true ⌝ }
     requires { ⌜ PlainAmplitude amplitude ⌝ }
     ensures same { λ r. ⌜ r ≡ div binary64 x amplitude ⌝ }
@@ -133,7 +131,7 @@ fn quotient(x: f32, amplitude: f64) -> f64
 }
 
 // The squared error of a point whose parts are given.
-fn error(x: f64, y: f64) -> f64
+pub fn error(x: f64, y: f64) -> f64
     requires { ⌜ Usual x ⌝ }
     requires { ⌜ Usual y ⌝ }
     ensures { λ r. ⌜ r ≡ errorFrom x y ⌝ }
@@ -141,37 +139,4 @@ fn error(x: f64, y: f64) -> f64
     let across = size(x) - IDEAL;
     let up = size(y) - IDEAL;
     across * across + up * up
-}
-
-// Writes `count` points from the place `from` on, after `done` points, and adds their errors to the
-// sum before them.
-pub fn write_run(
-    real: &[f32; 1024],
-    imaginary: &[f32; 1024],
-    from: usize,
-    done: usize,
-    count: usize,
-    amplitude: f64,
-    output: &mut [f32],
-    before: f64,
-) -> f64
-    requires { ⌜ from + count ≤ 1024 ⌝ }
-    requires { ⌜ done + count ≤ 1024 ⌝ }
-    requires { ⌜ (done + count) * 2 ≤ length (now output) ⌝ }
-    requires { ⌜ PlainRun (now real) (now imaginary) from count ⌝ }
-    requires { ⌜ PlainAmplitude amplitude ⌝ }
-    ensures errors { λ r. ⌜ r ≡ turns (runOf (sumStep (now (real .entry)) (now (imaginary .entry)) (errorAt amplitude)) from done) count before ⌝ }
-    ensures written { λ r. ⌜ now (output .exit) ≡ turns (runOf (writeStep (now (real .entry)) (now (imaginary .entry)) amplitude) from done) count (now (output .entry)) ⌝ }
-{
-    let mut sum = before;
-    let mut i = 0;
-    while i < count {
-        let x = quotient(real[from + i], amplitude);
-        let y = quotient(imaginary[from + i], amplitude);
-        sum = sum + error(x, y);
-        output[(done + i) * 2] = narrow(x);
-        output[(done + i) * 2 + 1] = narrow(y);
-        i += 1;
-    }
-    sum
 }
