@@ -65,7 +65,7 @@ fn main() {
     let _ = std::io::Read::read(&mut std::io::stdin(), &mut which);
     let h = match which[0] {
         b'p' => pushes(40000),
-        b'r' => reads(40000),
+        b'r' => reads(400000),
         b'e' => steps(4000000),
         _ => mixed(0, 0),
     };
