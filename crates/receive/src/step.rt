@@ -12,8 +12,8 @@ use crate::answer::closed;
 use admission::refusal::Verdict;
 use admission::refusal::is_accepted;
 use admission::refusal::number;
-use receiver::setup::set_up;
 use admission::state::Receiver;
+use receiver::setup::set_up;
 use recording::decode::count;
 use recording::decode::float;
 

@@ -1,13 +1,10 @@
 // The entries of a script, each on the state and the table that stand on the desk.
 ghost use Prim.Native.Nat.{_<_, _≤_};
 ghost use lib.ListN.{length};
-use replay_states::decoded;
-use replay_states::encode;
-use replay_states::profile_of;
-use numbers::bits::float;
-use numbers::bits::float32;
 use admission::refusal::number;
 use admission::state::Snapshot;
+use numbers::bits::float;
+use numbers::bits::float32;
 use replay::mark;
 use replay::mixed;
 use replay::mixed_bytes;
@@ -16,6 +13,9 @@ use replay::mixed_plane;
 use replay::next;
 use replay::unit;
 use replay::word;
+use replay_states::decoded;
+use replay_states::encode;
+use replay_states::profile_of;
 
 const OUT: i32 = 1;
 

@@ -2,6 +2,7 @@
 // complement for signed ones, an option as 1 and its values or zeros, planes of reals before planes
 // of imaginaries. Three words stay zero: an observation that the Rust keeps and never reads.
 ghost use Prim.Native.Nat.{_+_, _<_};
+use admission::state::Receiver;
 use carrier::CarrierPlace;
 use carrier::Loop;
 use chain::ChainPlace;
@@ -19,7 +20,6 @@ use numbers::bits::pattern;
 use numbers::bits::pattern32;
 use oscillator::Oscillator;
 use peak::KeeperPlace;
-use admission::state::Receiver;
 use resampler::pass::Resampler;
 use sequence::soft::Records;
 use sequence::soft::Slot;

@@ -16,11 +16,11 @@ use numbers::compare::abs;
 use numbers::compare::is_finite;
 use numbers::narrow::narrow;
 use numbers::narrow::widen;
-use roots::sqrt;
 use plain::Power;
 use plain::are_plain;
 use plain::is_common;
 use plain::power_run;
+use roots::sqrt;
 use rows::write_run;
 
 // 1 / sqrt(2), in f32 and in f64.
