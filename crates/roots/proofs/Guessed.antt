@@ -6,7 +6,7 @@ use native.Mathlib.Omega.{arith}
 use mathlib.Core.Bool.{Bool, true, false, not}
 use lib.Dec.{T, leb, leb→le, nleb→lt, lit<}
 use lib.Pow.{pow-pos}
-use Rattle.numbers.specs.Root.{HalfRoot}
+use Rattle.roots.specs.Radicands.{HalfRoot}
 
 -- ---- the whole part is twice q, or one less
 scaled : (n : ℕ) → n * 2 ^ 42 * 4 * 2 ^ 64 ≡ n * 2 ^ 108

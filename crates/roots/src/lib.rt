@@ -7,8 +7,8 @@ ghost use mathlib.Core.Bool.{true, cond};
 ghost use Prim.Native.Nat.{_+_, _*_, _^_, _<_, _≤_};
 ghost use lib.Dec.{leb};
 ghost use lib.Ieee.{binary32, binary64};
-ghost use Rattle.numbers.specs.Root.{roundRoot, sqrtOf, HalfRoot};
-ghost use Rattle.roots.specs.Radicands.{radicandOf};
+ghost use Rattle.numbers.specs.Root.{roundRoot, sqrtOf};
+ghost use Rattle.roots.specs.Radicands.{radicandOf, HalfRoot};
 use patterns::digits;
 use patterns::digits32;
 use patterns::pow2;
@@ -67,8 +67,8 @@ fn lowered(n: u64) -> u64
 // A guess at the root of n * 2 ^ 42, for an n from 2 ^ 62 on. y starts within 4 % of the inverse of the
 // root of f. In three steps s comes close to that root, and t to half of its inverse; the first step's
 // number is a little over a half, which evens out its error. The last step has the whole part w of s,
-// whose square is exact, and what is left of f. After the first step the errors fall below, as do the
-// roots that are almost a tie.
+// whose square is exact, and what is left of f. After the first step s errs downward, which is the
+// side that a root which is almost a tie lies on.
 fn guess(n: u64) -> u64
     ensures { λ r. ⌜ r < 2 ^ 53 ⌝ }
 {

@@ -10,7 +10,8 @@ use Prim.Native.Nat.{ℕ, _+_, _-_, _*_, _/_, _%_, _^_, _<_, _≤_}
 use native.Mathlib.Nat.{zero-add, le-of-lt}
 use lib.Ieee.{nanBits}
 use Rattle.laws.specs.FloatPack.{no-nan-bits}
-use Rattle.numbers.specs.Root.{roundRoot, HalfRoot}
+use Rattle.numbers.specs.Root.{roundRoot}
+use Rattle.roots.specs.Radicands.{HalfRoot}
 use Rattle.roots.proofs.Rooting.{Lead, lead, half-le, is-root, even-64, bit-le, small-64, deep-64}
 use Rattle.roots.proofs.sqrt_finite.Statement.{statement}
 use Rattle.roots.proofs.sqrt_finite.Tie as tie
