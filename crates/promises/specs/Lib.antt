@@ -8,4 +8,6 @@ pub mod Tables
 pub mod Taken
 pub mod Small
 pub mod Decimates
+pub mod Calls
+pub mod Counts
 pub mod Unique
