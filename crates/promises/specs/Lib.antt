@@ -10,4 +10,5 @@ pub mod Small
 pub mod Decimates
 pub mod Calls
 pub mod Counts
+pub mod CostsKept
 pub mod Unique
