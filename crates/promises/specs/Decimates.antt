@@ -56,7 +56,7 @@ use Rattle.samples.specs.Run.{frontAt, wholeOf as wholeRun}
 use Rattle.receiver.specs.Block.{Judged, judgedOf, startOf, acceptedOf, blockOf}
 use Rattle.promises.specs.Tables.{setup-fresh}
 use Rattle.promises.specs.Small.{Small, small-counts}
-use Rattle.promises.specs.Taken.{Call, answeredOf, takenOf, rungBefore, givenAt, givenOf, mixedRow}
+use Rattle.promises.specs.Taken.{Call, answeredOf, takenWhere, takenOf, rungBefore, givenAt, givenOf, mixedRow}
 
 -- ---- rows in turn
 abbrev oscillatorAfter : Oscillator → List Complex32 → Oscillator
@@ -207,13 +207,13 @@ given-is r (c ∷ cs) = elim (answered r c) [
       ∙ ap (λ (l : List Output). outputsOf t₀ (mixedRow b q (upto (front.sampleAt (c .samples)) k)) ++ l) (moved-on r c t rest)
       ∙ sym (outputs-append t₀ (mixedRow b q (upto (front.sampleAt (c .samples)) k)) (mixedRow b (oscillatorAfter q (upto (front.sampleAt (c .samples)) k)) rest))
       ∙ ap (outputsOf t₀) (sym (mixed-append b q (upto (front.sampleAt (c .samples)) k) rest))
-      ∙ ap (λ (y : Bool). outputsOf t₀ (mixedRow b q (cond y (front.samplesOf (c .samples)) [] ++ rest))) (sym (t .accepted))
+      ∙ ap (λ (y : Bool). outputsOf t₀ (mixedRow b q (takenWhere y c ++ rest))) (sym (t .accepted))
   | inr t ↦
       let after = answeredOf r c .receiver in
       ap (λ (y : Bool). cond y (upto (givenAt r c) (countOf (c .samples))) [] ++ givenOf after cs) (t .refused)
       ∙ given-is after cs
       ∙ ap (λ (u : Receiver). outputsOf (u .front .decimator) (mixedRow (conjugates (u .chain .profile)) (u .front .oscillator) (takenOf after cs))) (t .receiver)
-      ∙ ap (λ (y : Bool). outputsOf (r .front .decimator) (mixedRow (conjugates (r .chain .profile)) (r .front .oscillator) (cond y (front.samplesOf (c .samples)) [] ++ takenOf after cs))) (sym (t .refused))
+      ∙ ap (λ (y : Bool). outputsOf (r .front .decimator) (mixedRow (conjugates (r .chain .profile)) (r .front .oscillator) (takenWhere y c ++ takenOf after cs))) (sym (t .refused))
 ]
 
 -- and that is what the resampler takes: its place, its ring and the values that it makes go on by it and by nothing else
