@@ -9,3 +9,7 @@ pub mod Taken
 pub mod Small
 pub mod Decimates
 pub mod Recut
+pub mod Made
+pub mod MadeLaws
+pub mod FrontTyped
+pub mod ForgetsWithin
