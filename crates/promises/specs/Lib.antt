@@ -13,3 +13,4 @@ pub mod Made
 pub mod MadeLaws
 pub mod FrontTyped
 pub mod ForgetsWithin
+pub mod Witness
