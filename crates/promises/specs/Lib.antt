@@ -14,3 +14,4 @@ pub mod MadeLaws
 pub mod FrontTyped
 pub mod ForgetsWithin
 pub mod Witness
+pub mod FirstValue

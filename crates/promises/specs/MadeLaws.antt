@@ -56,7 +56,7 @@ hears-by-any table other h (Value v) =
 abbrev pub ringIn : Receiver → Heard
 ringIn r = front.ringOf (startOf r [] [] .rung)
 
-abbrev ringAfter : Heard → List Output → ℕ → Heard
+abbrev pub ringAfter : Heard → List Output → ℕ → Heard
 ringAfter h os n = turns (λ (i : ℕ) (g : Heard). hearing [] g (getD os i Nothing)) n h
 
 ring-first : (h : Heard) (os ps : List Output) (n : ℕ) → n ≤ length os → ringAfter h (os ++ ps) n ≡ ringAfter h os n
@@ -98,7 +98,7 @@ module _ (us us' : List (List Complex32)) (ts ts' : List (List Float)) (os os' :
       ((ap (λ (j : ℕ). ringAfter h (os ++ os') (j + n)) (sym c) ∙ ring-second h os os' n ∙ ap (λ (r : Heard). ringAfter r os' n) e) i)
       ((ap (λ (j : ℕ). getD (os ++ os') (j + n) Nothing) (sym c) ∙ getD-append-add os os' n Nothing) i))
 
-made-at : (r : Receiver) (cs : List Call) (n : ℕ) → n < length (takenOf r cs) → getD (madeOf r cs) n [] ≡ heard (getD (tablesOf r cs) n []) (ringAfter (ringIn r) (givenOf r cs) n) (getD (givenOf r cs) n Nothing)
+pub made-at : (r : Receiver) (cs : List Call) (n : ℕ) → n < length (takenOf r cs) → getD (madeOf r cs) n [] ≡ heard (getD (tablesOf r cs) n []) (ringAfter (ringIn r) (givenOf r cs) n) (getD (givenOf r cs) n Nothing)
 unfolding madeOf tablesOf givenOf takenOf front.samplesOf
 made-at r [] n l = absurd (omega arith)
 made-at r (c ∷ cs) n l = elim (answered r c) [
@@ -180,9 +180,9 @@ module _ (d : ℕ) (s : Decimator) (z : Complex32) (k : Ready d s) where
       (λ l. ap (λ (j : ℕ). (j + n + 1) % d) (step-loud l .1) ∙ sym (add-mod-left d (0 + n + 1)) ∙ ap (λ (j : ℕ). j % d) (let g : d + (0 + n + 1) ≡ s .counter + suc n + 1 = omega arith in g))
       (lt-or-ge (s .counter + 1) d)
 
-record Paced (d since : ℕ) (os : List Output) : Type 0 where
-  sounds : (n : ℕ) → n < length os → (since + n + 1) % d ≡ 0 → (v : Complex32) × (getD os n Nothing ≡ Value v)
-  quiet : (n : ℕ) → n < length os → ((since + n + 1) % d ≡ 0 → ⊥) → getD os n Nothing ≡ Nothing
+pub record Paced (d since : ℕ) (os : List Output) : Type 0 where
+  pub sounds : (n : ℕ) → n < length os → (since + n + 1) % d ≡ 0 → (v : Complex32) × (getD os n Nothing ≡ Value v)
+  pub quiet : (n : ℕ) → n < length os → ((since + n + 1) % d ≡ 0 → ⊥) → getD os n Nothing ≡ Nothing
 
 row-sounds : (d : ℕ) (s : Decimator) → Ready d s → (zs : List Complex32) (n : ℕ) → n < length zs → (s .counter + n + 1) % d ≡ 0 → (v : Complex32) × (getD (outputsOf s zs) n Nothing ≡ Value v)
 unfolding outputsOf
@@ -205,12 +205,12 @@ row-quiet d s k (z ∷ zs) zero l e =
     (lt-or-ge (s .counter + 1) d)
 row-quiet d s k (z ∷ zs) (suc n) l e = row-quiet d (steppedOf s z .decimator) (step-ready d s z k) zs n (omega arith) (λ f. e (sym (counts-on d s z k n) ∙ f))
 
-given-length : (r : Receiver) (cs : List Call) → length (givenOf r cs) ≡ length (takenOf r cs)
+pub given-length : (r : Receiver) (cs : List Call) → length (givenOf r cs) ≡ length (takenOf r cs)
 given-length r cs =
     let zs = mixedRow (conjugates (r .chain .profile)) (r .front .oscillator) (takenOf r cs) in
     ap length (given-is r cs) ∙ outputs-length (r .front .decimator) zs ∙ mixed-length (conjugates (r .chain .profile)) (r .front .oscillator) (takenOf r cs)
 
-given-paced : (d : ℕ) (r : Receiver) (cs : List Call) → Ready d (r .front .decimator) → Paced d (r .front .decimator .counter) (givenOf r cs)
+pub given-paced : (d : ℕ) (r : Receiver) (cs : List Call) → Ready d (r .front .decimator) → Paced d (r .front .decimator .counter) (givenOf r cs)
 given-paced d r cs k =
     let s = r .front .decimator in
     let zs = mixedRow (conjugates (r .chain .profile)) (r .front .oscillator) (takenOf r cs) in
