@@ -1,7 +1,7 @@
 -- What calls make of each sample: the table lent with it decides the values and nothing of the ring, the decimator gives a value at every d-th sample, and what is made turns on the last c of these. Assumes nothing.
 use mathlib.Core.Path.{_≡_, refl, sym, ap, _∙_, subst}
 use mathlib.Core.Bool.{Bool, true, cond}
-use mathlib.Core.List.{List, [], _∷_, _++_}
+use mathlib.Core.List.{List, [], _∷_, _++_, flatten, append-nil, append-assoc}
 use mathlib.Core.Logic.{inl, inr, ⊎-elim}
 use Prim.Native.Nat.{ℕ, zero, suc, _+_, _-_, _*_, _%_, _≤_, _<_}
 use native.Mathlib.Nat.{mod-eq-of-lt, mod-self, add-mod-left, add-mul-mod-self-right, mul-mod-left, eq-zero-or-pos}
@@ -32,10 +32,12 @@ use Rattle.admission.specs.declared.state.Receiver.{Receiver}
 use Rattle.admission.specs.Admitted.{admittedOf}
 use Rattle.admission.specs.Fits.{FrontFits, fits-from}
 use Rattle.samples.specs.Samples.{countOf}
+use Rattle.samples.specs.Run.{frontAt}
 use Rattle.receiver.specs.Block.{startOf}
+use Rattle.promises.specs.Deliveries.{valuesOf}
 use Rattle.promises.specs.Accepts.{accepted-passes}
 use Rattle.promises.specs.Taken.{Call, answeredOf, takenWhere, takenOf, rungBefore, givenAt, givenOf, mixedRow}
-use Rattle.promises.specs.Decimates.{mixed-length, answered, given-is, hears}
+use Rattle.promises.specs.Decimates.{mixed-length, answered, given-is, hears, makes}
 use Rattle.promises.specs.Made.{madeAt, madeOf, tablesOf}
 
 -- ---- the table decides the values that are made, and nothing of the ring
@@ -68,7 +70,12 @@ ring-second h os ps n =
     ∙ turns-same _ _ n (ringAfter h (os ++ ps) (length os)) (λ k g m. ap (hearing [] g) (getD-append-add os ps k Nothing))
     ∙ ap (λ (g : Heard). ringAfter g ps n) (ring-first h os ps (length os) (omega arith))
 
--- within a call
+-- ---- within a call
+flatten-more : {A : Type 0} (ls : List (List A)) (l : List A) → flatten (ls ++ (l ∷ [])) ≡ flatten ls ++ l
+unfolding flatten
+flatten-more [] l = append-nil l
+flatten-more (m ∷ ls) l = ap (λ (k : List _). m ++ k) (flatten-more ls l) ∙ sym (append-assoc m (flatten ls) l)
+
 ring-call : (r : Receiver) (c : Call) (k n : ℕ) → n ≤ k → ringAfter (ringIn r) (upto (givenAt r c) k) n ≡ front.ringOf (rungBefore r c n)
 unfolding turns
 ring-call r c k zero l = unfold front.frontOf in refl
@@ -77,7 +84,16 @@ ring-call r c k (suc n) l =
     ∙ hears-by-any [] (c .table) (front.ringOf (rungBefore r c n)) (givenAt r c n)
     ∙ sym (hears r c n)
 
--- ---- all calls: what is made of each sample
+-- what a call hands to its chain are the values made of its samples, in their order
+made-so-far : (r : Receiver) (c : Call) (n : ℕ) → frontAt (conjugates (r .chain .profile)) (c .table) (c .samples) (startOf r (c .dibits) (c .reliabilities)) n .values ≡ flatten (upto (madeAt r c) n)
+unfolding upto
+made-so-far r c zero = unfold front.frontOf turns flatten in refl
+made-so-far r c (suc n) = makes r c n ∙ ap (λ (l : List Complex32). l ++ madeAt r c n) (made-so-far r c n) ∙ sym (flatten-more (upto (madeAt r c) n) (madeAt r c n))
+
+pub made-in-order : (r : Receiver) (c : Call) → valuesOf r (c .table) (c .samples) ≡ flatten (upto (madeAt r c) (countOf (c .samples)))
+made-in-order r c = made-so-far r c (countOf (c .samples))
+
+-- ---- all calls: what is made of each sample, where two rows of them stand one after the other
 module _ (us us' : List (List Complex32)) (ts ts' : List (List Float)) (os os' : List Output) (h g : Heard) where
   abbrev Made : List (List Complex32) → List (List Float) → Heard → List Output → ℕ → Type 0
   Made vs tables ring outputs n = getD vs n [] ≡ heard (getD tables n []) (ringAfter ring outputs n) (getD outputs n Nothing)
@@ -98,6 +114,7 @@ module _ (us us' : List (List Complex32)) (ts ts' : List (List Float)) (os os' :
       ((ap (λ (j : ℕ). ringAfter h (os ++ os') (j + n)) (sym c) ∙ ring-second h os os' n ∙ ap (λ (r : Heard). ringAfter r os' n) e) i)
       ((ap (λ (j : ℕ). getD (os ++ os') (j + n) Nothing) (sym c) ∙ getD-append-add os os' n Nothing) i))
 
+-- what is made of sample n: by the table lent with it, of the ring that the outputs before it leave and of its own output
 pub made-at : (r : Receiver) (cs : List Call) (n : ℕ) → n < length (takenOf r cs) → getD (madeOf r cs) n [] ≡ heard (getD (tablesOf r cs) n []) (ringAfter (ringIn r) (givenOf r cs) n) (getD (givenOf r cs) n Nothing)
 unfolding madeOf tablesOf givenOf takenOf front.samplesOf
 made-at r [] n l = absurd (omega arith)
