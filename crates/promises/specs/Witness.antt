@@ -32,19 +32,19 @@ use Rattle.promises.specs.ForgetsWithin.{Alike}
 
 -- ---- every accepted setup
 module _ (rate offset : Float) (profile : ℤ) (lent : List Float) (accepted : setupOf rate offset profile lent .number ≡ 0) where
-  abbrev set : Receiver
-  set = setupOf rate offset profile lent .receiver
+  abbrev fresh : Receiver
+  fresh = setupOf rate offset profile lent .receiver
 
   abbrev written : List Float
   written = setupOf rate offset profile lent .table
 
-  setup-takes : (xs : List Float) → countOf xs ≤ 2 ^ 52 → finiteOf xs ≡ true → Takes set written xs
+  setup-takes : (xs : List Float) → countOf xs ≤ 2 ^ 52 → finiteOf xs ≡ true → Takes fresh written xs
   unfolding freshReceiver
   setup-takes xs few finite =
       let f = setup-fresh rate offset profile lent accepted in
       let size = setup-writes rate offset profile lent accepted .size in
       let arm = setup-arm rate offset profile lent accepted in
-      let total : set .total ≡ 0 = ap (λ (r : Receiver). r .total) (f .receiver) in
+      let total : fresh .total ≡ 0 = ap (λ (r : Receiver). r .total) (f .receiver) in
       let room = f .room in
       record {
         admitted = setup-admitted rate offset profile lent accepted;
@@ -54,8 +54,8 @@ module _ (rate offset : Float) (profile : ℤ) (lent : List Float) (accepted : s
       }
 
   -- FROM EVERY ACCEPTED SETUP, with the table that it wrote, finite samples, up to 2^52 of them, are accepted in all parts of whole samples, at most 65,536 of them, with rooms that suffice
-  pub setup-accepts : (parts : List Part) → countOf (samplesIn parts) ≤ 2 ^ 52 → finiteOf (samplesIn parts) ≡ true → AllRoomy parts → AllFew parts → AllAccepted set written parts
-  setup-accepts parts n finite roomy few = parts-accepted set written parts (setup-typed rate offset profile lent accepted) (setup-takes (samplesIn parts) n finite) roomy few
+  pub setup-accepts : (parts : List Part) → countOf (samplesIn parts) ≤ 2 ^ 52 → finiteOf (samplesIn parts) ≡ true → AllRoomy parts → AllFew parts → AllAccepted fresh written parts
+  setup-accepts parts n finite roomy few = parts-accepted fresh written parts (setup-typed rate offset profile lent accepted) (setup-takes (samplesIn parts) n finite) roomy few
 
 -- ---- 384,000 samples a second, offset 0, profile 0, and room for 32 x 288 taps
 abbrev pub rate : Float
