@@ -56,7 +56,7 @@ use Rattle.samples.specs.Run.{frontAt, wholeOf as wholeRun}
 use Rattle.receiver.specs.Block.{Judged, judgedOf, startOf, acceptedOf, blockOf}
 use Rattle.promises.specs.Tables.{setup-fresh}
 use Rattle.promises.specs.Small.{Small, small-counts}
-use Rattle.promises.specs.Taken.{Call, answeredOf, takenOf, rungBefore, givenAt, givenOf, mixedRow}
+use Rattle.promises.specs.Taken.{Call, answeredOf, takenWhere, takenOf, rungBefore, givenAt, givenOf, mixedRow}
 
 -- ---- rows in turn
 abbrev oscillatorAfter : Oscillator → List Complex32 → Oscillator
@@ -70,7 +70,7 @@ unfolding mixedRow
 mixed-append conjugated o [] ys = refl
 mixed-append conjugated o (x ∷ xs) ys = ap (λ (l : List Complex32). mixedOf o x conjugated ∷ l) (mixed-append conjugated (turnedOf o) xs ys)
 
-mixed-length : (conjugated : Bool) (o : Oscillator) (xs : List Complex32) → length (mixedRow conjugated o xs) ≡ length xs
+pub mixed-length : (conjugated : Bool) (o : Oscillator) (xs : List Complex32) → length (mixedRow conjugated o xs) ≡ length xs
 unfolding mixedRow
 mixed-length conjugated o [] = refl
 mixed-length conjugated o (x ∷ xs) = ap suc (mixed-length conjugated (turnedOf o) xs)
@@ -159,7 +159,7 @@ chain-profile values t records room = ran-profile (bothTables .taps) (bothTables
 -- ---- a call is accepted and moves the front over its samples, or refused and leaves the state as it was
 pub record Accepted (r : Receiver) (c : Call) : Type 0 where
   pub accepted : eqb (answeredOf r c .number) 0 ≡ true
-  pub moved : answeredOf r c .receiver .front ≡ rungBefore r c (countOf (c .samples)) .place
+  pub moved : startOf (answeredOf r c .receiver) [] [] .rung ≡ rungBefore r c (countOf (c .samples))
   pub profile : answeredOf r c .receiver .chain .profile ≡ r .chain .profile
 
 pub record Refused (r : Receiver) (c : Call) : Type 0 where
@@ -186,7 +186,7 @@ moved-on r c t zs =
     let b = conjugates (r .chain .profile) in
     let k = countOf (c .samples) in
     let h : front.Run = record { rung = startOf r (c .dibits) (c .reliabilities) .rung; values = [] } in
-    (λ i. outputsOf (t .moved i .decimator) (mixedRow (conjugates (t .profile i)) (t .moved i .oscillator) zs))
+    (λ i. outputsOf (t .moved i .place .decimator) (mixedRow (conjugates (t .profile i)) (t .moved i .place .oscillator) zs))
     ∙ (λ i. outputsOf (decimator-at b (c .table) (c .samples) h k i) (mixedRow b (oscillator-at b (c .table) (c .samples) h k i) zs))
 
 -- ---- all calls: what the decimator gives for each sample taken is its outputs to the mixed samples in one row
@@ -207,13 +207,13 @@ given-is r (c ∷ cs) = elim (answered r c) [
       ∙ ap (λ (l : List Output). outputsOf t₀ (mixedRow b q (upto (front.sampleAt (c .samples)) k)) ++ l) (moved-on r c t rest)
       ∙ sym (outputs-append t₀ (mixedRow b q (upto (front.sampleAt (c .samples)) k)) (mixedRow b (oscillatorAfter q (upto (front.sampleAt (c .samples)) k)) rest))
       ∙ ap (outputsOf t₀) (sym (mixed-append b q (upto (front.sampleAt (c .samples)) k) rest))
-      ∙ ap (λ (y : Bool). outputsOf t₀ (mixedRow b q (cond y (front.samplesOf (c .samples)) [] ++ rest))) (sym (t .accepted))
+      ∙ ap (λ (y : Bool). outputsOf t₀ (mixedRow b q (takenWhere y c ++ rest))) (sym (t .accepted))
   | inr t ↦
       let after = answeredOf r c .receiver in
       ap (λ (y : Bool). cond y (upto (givenAt r c) (countOf (c .samples))) [] ++ givenOf after cs) (t .refused)
       ∙ given-is after cs
       ∙ ap (λ (u : Receiver). outputsOf (u .front .decimator) (mixedRow (conjugates (u .chain .profile)) (u .front .oscillator) (takenOf after cs))) (t .receiver)
-      ∙ ap (λ (y : Bool). outputsOf (r .front .decimator) (mixedRow (conjugates (r .chain .profile)) (r .front .oscillator) (cond y (front.samplesOf (c .samples)) [] ++ takenOf after cs))) (sym (t .refused))
+      ∙ ap (λ (y : Bool). outputsOf (r .front .decimator) (mixedRow (conjugates (r .chain .profile)) (r .front .oscillator) (takenWhere y c ++ takenOf after cs))) (sym (t .refused))
 ]
 
 -- and that is what the resampler takes: its place, its ring and the values that it makes go on by it and by nothing else
@@ -233,7 +233,7 @@ unfolding outputOf
 answered-at d D t k zs n = ap (λ (os : List Output). getD os n Nothing) (outputs-above d D t k zs) ∙ List·getD-map (outputOf d) (answersOf t (map countsOf zs)) n Silent
 
 -- samples that agree, mixed
-mixed-same : (conjugated : Bool) (o : Oscillator) (none : Complex32) (xs ys : List Complex32) (i : ℕ) → i < length xs → i < length ys → getD xs i none ≡ getD ys i none
+pub mixed-same : (conjugated : Bool) (o : Oscillator) (none : Complex32) (xs ys : List Complex32) (i : ℕ) → i < length xs → i < length ys → getD xs i none ≡ getD ys i none
     → getD (mixedRow conjugated o xs) i none ≡ getD (mixedRow conjugated o ys) i none
 unfolding mixedRow
 mixed-same conjugated o none [] ys i l m e = absurd (omega arith)
@@ -326,7 +326,7 @@ p9-offset : offsetRefused p9 zero64 ≡ false
 unfolding offsetRefused isFinite absOf ofBits le div add
 p9-offset = refl
 
-p9-sizes : (sizedOf p9 .decimation ≡ 2) × (sizedOf p9 .arm ≡ 288)
+pub p9-sizes : (sizedOf p9 .decimation ≡ 2) × (sizedOf p9 .arm ≡ 288)
 unfolding sizedOf decimationOf decimatedOf armOf wholeOf mul div ofInt ofBits toUnsigned
 p9-sizes = (refl, refl)
 

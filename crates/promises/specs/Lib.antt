@@ -12,3 +12,10 @@ pub mod Calls
 pub mod Counts
 pub mod CostsKept
 pub mod Unique
+pub mod Recut
+pub mod Made
+pub mod MadeLaws
+pub mod FrontTyped
+pub mod ForgetsWithin
+pub mod Witness
+pub mod FirstValue

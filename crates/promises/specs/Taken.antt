@@ -26,10 +26,14 @@ pub record Call : Type 0 where
 abbrev pub answeredOf : Receiver → Call → Outcome
 answeredOf r c = blockOf r (c .table) (c .samples) (c .dibits) (c .reliabilities)
 
--- the samples that a receiver takes in calls one after the other: those of the accepted ones
+-- the samples that a call takes: all of them where it is accepted, and none where it is refused
+abbrev pub takenWhere : Bool → Call → List Complex32
+takenWhere accepted c = cond accepted (front.samplesOf (c .samples)) []
+
+-- those that a receiver takes in calls one after the other
 unfoldable pub takenOf : Receiver → List Call → List Complex32
 takenOf r [] = []
-takenOf r (c ∷ cs) = cond (eqb (answeredOf r c .number) 0) (front.samplesOf (c .samples)) [] ++ takenOf (answeredOf r c .receiver) cs
+takenOf r (c ∷ cs) = takenWhere (eqb (answeredOf r c .number) 0) c ++ takenOf (answeredOf r c .receiver) cs
 
 -- the front before sample k of a call, and what its decimator gives the resampler for that sample
 abbrev pub rungBefore : Receiver → Call → ℕ → front.Rung
