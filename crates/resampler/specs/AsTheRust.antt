@@ -229,13 +229,15 @@ module _ (q : Resampler) (d : Dimensioned q) (p : Passing q) (table real imagina
       let e = deliveredOf q table real imaginary in
       ap (returns q table) (loop-ends n h) ∙ returns-is e (o .going) ∙ lt-ltb (q .index) (placeOf (e .next) .position + back q) (o .idle)
 
--- ---- THE LAW: a value into a state that is ready, whose next output is a value of an f64
+-- ---- THE LAW
 
 -- an answer of ours as the Rust tells it: the state, both planes of the ring, and the outputs in order
 abbrev pub toldOf : Sampled → Processed
 toldOf s = record { resampler = s .passed .resampler; real = s .real; imaginary = s .imaginary; sink = valuesOf (s .passed) }
 
-module _ (r : Resampler) (k : Ready r) (F : T (fits binary64 (r .next))) (below : r .index < 2 ^ 52) (v : Complex32) (table real imaginary : List Float) (room : 32 * r .arm ≤ length table) (n : ℕ) (enough : 3 ≤ n) where
+-- a value into a state that is ready, whose next output is a value of an f64 and into which fewer than 2 ^ 52 values came, with a table of 32 arms: the Rust's loop, let run for any n turns from 3 up
+module _ (r : Resampler) (k : Ready r) (F : T (fits binary64 (r .next))) (below : r .index < 2 ^ 52) (v : Complex32) (table real imaginary : List Float)
+    (room : 32 * r .arm ≤ length table) (n : ℕ) (enough : 3 ≤ n) where
   pub as-the-rust : processedOf n r v table real imaginary ≡ toldOf (resampledOf r v table real imaginary)
   unfolding processedOf resampledOf
   as-the-rust =
