@@ -12,3 +12,5 @@ pub mod Window
 pub mod Outputs
 pub mod Ticks
 pub mod Scaled
+pub mod RustPass
+pub mod AsTheRust

@@ -397,6 +397,22 @@ whole-asks (fin true m e) F k =
     let z = minus-zero m e F (no-minus (fin true m e) tt (k .range .lower)) in
     subst (λ (x : Float). T (lt (fin true 1 (pos 0)) (wholeOf away binary64 x)) × T (lt (wholeOf away binary64 x) (fin false 1 (pos 64)))) (sym z) (unfold wholeOf round lt in (tt, tt))
 
+-- ---- the code's numbers are the definition's
+module _ (rate : Float) (n d : ℕ) (f : Float)
+    (ne : n ≡ nearestOf (div binary64 rate (ofBits binary64 0x410f_4000_0000_0000))) (de : d ≡ max n 1) (fe : f ≡ ofInt binary64 (pos d)) where
+  pub decimated-code : div binary64 rate f ≡ decimatedOf rate
+  unfolding decimatedOf decimationOf
+  decimated-code = ap (λ (z : Float). div binary64 rate z) (fe ∙ ap (λ (k : ℕ). ofInt binary64 (pos k)) (de ∙ ap (λ (k : ℕ). max k 1) ne))
+
+  pub sized-code : (m c : ℕ) → m ≡ nearestOf (mul binary64 (ofBits binary64 0x3f58_9374_bc6a_7efa) (div binary64 rate f)) → c ≡ max m 8
+      → _≡_ {A = Dimensions} (record { decimation = d; arm = c; rate = div binary64 rate f }) (sizedOf rate)
+  unfolding sizedOf decimationOf armOf
+  sized-code m c me ce =
+      let e = decimated-code in
+      let de' : d ≡ decimationOf rate = de ∙ ap (λ (k : ℕ). max k 1) ne in
+      let ce' : c ≡ armOf (decimatedOf rate) = ce ∙ ap (λ (k : ℕ). max k 8) me ∙ ap armOf e in
+      λ i. record { decimation = de' i; arm = ce' i; rate = e i }
+
 -- ---- THE THEOREM: what every admitted rate gives
 pub record Sized (s : Dimensions) : Type 0 where
   pub decimation-low : 1 ≤ s .decimation
@@ -484,18 +500,3 @@ quotient-countable rate a = record {
 pub product-countable : (x : Float) → In (fin false 75 (pos 7)) (fin false 375 (pos 10)) x → Countable (mul binary64 (ofBits binary64 0x3f58_9374_bc6a_7efa) x)
 unfolding factor fewest longest ofBits mul le
 product-countable x i = record { range = in-wider fewest longest f0 (fin false 1 (pos 10)) tt tt tt tt (product-in x i) }
-
-module _ (rate : Float) (n d : ℕ) (f : Float)
-    (ne : n ≡ nearestOf (div binary64 rate (ofBits binary64 0x410f_4000_0000_0000))) (de : d ≡ max n 1) (fe : f ≡ ofInt binary64 (pos d)) where
-  pub decimated-code : div binary64 rate f ≡ decimatedOf rate
-  unfolding decimatedOf decimationOf
-  decimated-code = ap (λ (z : Float). div binary64 rate z) (fe ∙ ap (λ (k : ℕ). ofInt binary64 (pos k)) (de ∙ ap (λ (k : ℕ). max k 1) ne))
-
-  pub sized-code : (m c : ℕ) → m ≡ nearestOf (mul binary64 (ofBits binary64 0x3f58_9374_bc6a_7efa) (div binary64 rate f)) → c ≡ max m 8
-      → _≡_ {A = Dimensions} (record { decimation = d; arm = c; rate = div binary64 rate f }) (sizedOf rate)
-  unfolding sizedOf decimationOf armOf
-  sized-code m c me ce =
-      let e = decimated-code in
-      let de' : d ≡ decimationOf rate = de ∙ ap (λ (k : ℕ). max k 1) ne in
-      let ce' : c ≡ armOf (decimatedOf rate) = ce ∙ ap (λ (k : ℕ). max k 8) me ∙ ap armOf e in
-      λ i. record { decimation = de' i; arm = ce' i; rate = e i }

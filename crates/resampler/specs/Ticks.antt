@@ -163,7 +163,7 @@ small-32 r j h k l = go (decLe 5 j)
         turn r P = omega arith
 
 -- a whole number that was rounded to a float, cut again
-whole-cut : (n : ℕ) → n ≤ 2 ^ 53 → toUnsigned 64 (round binary64 false n 1) ≡ n
+pub whole-cut : (n : ℕ) → n ≤ 2 ^ 53 → toUnsigned 64 (round binary64 false n 1) ≡ n
 whole-cut n h = unfold ofInt in unsigned-back binary64 64 n (unfold inFloat in le→leb n (2 ^ 53) h) (lt-of-le-of-lt h (lit< tt)) .1
 
 -- rounded half away, by any fraction
@@ -262,7 +262,7 @@ at-zero : placeOf (fin true 0 (pos 0)) ≡ record { position = position (fin tru
 unfolding placeOf position phase wholeOf sub mul ofInt ofBits toUnsigned
 at-zero = refl
 
-whole-most : (a D : ℕ) → 0 < D → a ≤ 2 ^ 53 * D → a / D ≤ 2 ^ 53
+pub whole-most : (a D : ℕ) → 0 < D → a ≤ 2 ^ 53 * D → a / D ≤ 2 ^ 53
 whole-most a D P h = div-le-of-le-mul D (le-trans h (le-of-eq (mul-comm (2 ^ 53) D)))
 
 pub placed-is : (x : Float) → In f0 far x → T (fits binary64 x) → placeOf x ≡ record { position = position x; phase = phase x }

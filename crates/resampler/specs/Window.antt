@@ -35,7 +35,7 @@ module _ (c write : ℕ) (in-ring : write < c + 16) (table real imaginary : List
       let e : write + (c + 16) - c ≡ c + 16 + (write - c) = omega arith in
       sym (ap (λ (k : ℕ). k % (c + 16)) e ∙ add-mod-left (c + 16) (write - c) ∙ mod-eq-of-lt (let l : write - c < c + 16 = omega arith in l))
 
-  window-at : (plane : List Float) (i j : ℕ) → i < c → (start nan (c + 16) write c + i) % (c + 16) ≡ j → getD (latest nan (c + 16) plane write c) i nan ≡ getD plane j nan
+  pub window-at : (plane : List Float) (i j : ℕ) → i < c → (start nan (c + 16) write c + i) % (c + 16) ≡ j → getD (latest nan (c + 16) plane write c) i nan ≡ getD plane j nan
   unfolding latest
   window-at plane i j h e = upto-at (λ k. getD plane ((start nan (c + 16) write c + k) % (c + 16)) nan) c i nan h ∙ ap (λ (k : ℕ). getD plane k nan) e
 
