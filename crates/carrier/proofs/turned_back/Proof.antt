@@ -15,7 +15,7 @@ narrowed-requires c κs = search needs
 
 returns : tie.Need-returns
 unfolding turnedBack
-returns c = cc
+returns c = rw (c .narrowed .ensures, c .before .before .before .before .before .widen2 .ensures, c .before .before .before .before .before .before .widen .ensures)
 
 pub turned-back-spec : {M : Type 1} → statement M
 turned-back-spec = tie.close (tie.spec widen-requires widen-requires-2 narrowed-requires returns)

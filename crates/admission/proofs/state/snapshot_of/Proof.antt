@@ -9,7 +9,7 @@ flag-requires c κs = search needs
 
 returns : tie.Need-returns
 unfolding snapshotOf hertzOf ofBits mul div
-returns c = cc
+returns c = rw (c .flag .ensures)
 
 pub snapshot-of-spec : {M : Type 1} → statement M
 snapshot-of-spec = tie.close (tie.spec flag-requires returns)

@@ -9,7 +9,7 @@ is-finite32-requires-2 : tie.Need-is-finite32-requires-2
 is-finite32-requires-2 c κs = search needs
 
 returns : tie.Need-returns
-returns c = cc
+returns c = rw (c .is-finite322 .ensures, c .before .is-finite32 .ensures)
 
 pub still-finite-spec : {M : Type 1} → statement M
 still-finite-spec = tie.close (tie.spec is-finite32-requires is-finite32-requires-2 returns)
