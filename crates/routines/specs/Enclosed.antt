@@ -6,7 +6,7 @@ use native.Mathlib.Omega.{arith}
 use mathlib.Core.Bool.{Bool, true, false, _&&_, true≢false}
 use lib.Dec.{T, ltb, eqb, eqb→eq, ltb→lt, lt→ltb}
 use lib.Ieee.{Float, nan, inf, fin, Format, binary32, binary64, ofBits, up, down, round, mul, lt, le, eq, fits}
-use lib.Ieee.Fits.{and-l, and-r, round-fits, inf-fits, down-pos}
+use lib.Ieee.Fits.{and-l, and-r, down-pos}
 use lib.Ieee.Order.{round-mono}
 use lib.Ieee.Scale.{round-same}
 use lib.Ieee.Positive.{num, den, den-pos, positive}
@@ -16,7 +16,8 @@ use Rattle.laws.specs.FloatValues.{round-least, round-most, id-nonneg}
 use Rattle.numbers.specs.Numbers.{convert}
 use Rattle.numbers.specs.Root.{roundRoot, sqrtOf}
 use Rattle.numbers.specs.RootOrder.{root-above, root-below}
-use Rattle.routines.specs.Squares.{square-is, lt-clash, gt-clash, not-under, convert-up, sqrt-up}
+use Rattle.numbers.specs.Faithful.{sqrt-is}
+use Rattle.routines.specs.Squares.{square-is, lt-clash, gt-clash, not-under, convert-up, convert-fits, sqrt-up}
 
 -- low and high enclose the root of s: a rounded square that lies beyond a value of the format tells that the exact one does
 abbrev pub encloses : Float → Float → Float → Bool
@@ -44,12 +45,6 @@ convert-mono f (fin false m e) (inf true) u v h = absurd v
 convert-mono f (fin false m e) (inf false) u v h = inf-most (round f false (m * up e) (down e)) (round-signed false f (m * up e) (down e))
 convert-mono f (fin false m e) (fin true n d) u v h = absurd v
 convert-mono f (fin false m e) (fin false n d) u v h = round-mono f (m * up e) (down e) (n * up d) (down d) (down-pos e) (down-pos d) (le→cross (fin false m e) (fin false n d) tt tt h)
-
-convert-fits : (f : Format) (x : Float) → T (signed false x) → T (fits f (convert f x))
-unfolding convert
-convert-fits f nan u = absurd u
-convert-fits f (inf s) u = inf-fits f s
-convert-fits f (fin s m e) u = round-fits f s (m * up e) (down e)
 
 -- ---- what lies between two that are equal is the same value
 same-cross : (a a' b b' r r' : ℕ) → 0 < b' → a * b' ≡ b * a' → a * r' ≤ r * a' → r * b' ≤ b * r' → r * a' ≡ a * r'
@@ -135,14 +130,6 @@ square-of f nan p = absurd p
 square-of f (inf s) p = absurd p
 square-of f (fin s m e) p = square-is f s m e
 
-root-is : (f : Format) (s : Float) → T (positive s) → sqrtOf f s ≡ roundRoot f (num s) (den s)
-unfolding sqrtOf
-root-is f nan p = absurd p
-root-is f (inf t) p = absurd p
-root-is f (fin true m e) p = absurd p
-root-is f (fin false zero e) p = absurd p
-root-is f (fin false (suc m) e) p = refl
-
 -- ---- the root by the two squares
 module _ (f : Format) (x s : Float) (X : T (nonneg x)) (S : T (positive s)) (F : T (fits f x)) (G : T (fits f s)) where
   abbrev sq : Float
@@ -158,14 +145,14 @@ module _ (f : Format) (x s : Float) (X : T (nonneg x)) (S : T (positive s)) (F :
   root-over h =
       let l : T (lt sq s) = subst (λ (z : Float). T (lt z s)) (square-of f x X) h in
       let k = not-under (num x * num x * den s) (num s * (den x * den x)) (λ m. gt-clash s sq N (round-signed false f _ _) l (round-least f (num x * num x) (den x * den x) s sq-pos N G m)) in
-      subst (λ (z : Float). T (le x z)) (sym (root-is f s S))
+      subst (λ (z : Float). T (le x z)) (sym (sqrt-is f s S))
       (subst (λ (z : Float). T (le z (roundRoot f (num s) (den s)))) (id-nonneg f x X F) (root-above f (num x) (den x) (num s) (den s) (den-pos x) (den-pos s) (le-of-lt k)))
 
   root-under : T (lt s (mul f x x)) → T (le (sqrtOf f s) x)
   root-under h =
       let l : T (lt s sq) = subst (λ (z : Float). T (lt s z)) (square-of f x X) h in
       let k = not-under (num s * (den x * den x)) (num x * num x * den s) (λ m. lt-clash s sq N (round-signed false f _ _) l (round-most f (num x * num x) (den x * den x) s sq-pos N G m)) in
-      subst (λ (z : Float). T (le z x)) (sym (root-is f s S))
+      subst (λ (z : Float). T (le z x)) (sym (sqrt-is f s S))
       (subst (λ (z : Float). T (le (roundRoot f (num s) (den s)) z)) (id-nonneg f x X F) (root-below f (num x) (den x) (num s) (den s) (den-pos x) (den-pos s) (le-of-lt k)))
 
 under-high : (f : Format) (s high : Float) → T (signed false high) → T (positive s) → T (fits f high) → T (fits f s) → T (lt s (mul f high high)) → T (le (sqrtOf f s) high)

@@ -1,4 +1,4 @@
--- Document 01 on the hypotenuse: an infinity wins over a NaN, a NaN without one gives a NaN, and otherwise the exact root lies strictly between the result's two neighbours.
+-- Document 01 on the hypotenuse: an infinity wins over a NaN, a NaN without one gives a NaN, and otherwise the result is no NaN and the exact root lies strictly between its two neighbours.
 -- Assumes nothing.
 use mathlib.Core.Path.{_≡_, refl, sym, ap, _∙_, subst}
 use Prim.Native.Nat.{ℕ, zero, suc, _+_, _-_, _*_, _%_, _^_, _≤_, _<_, zero-le}
@@ -19,10 +19,11 @@ use Rattle.laws.specs.FloatRounding.{signed, round-signed}
 use Rattle.laws.specs.FloatParts.{field, digitsOf, powerOf, finite-field, float-value, digits-lt}
 use Rattle.laws.specs.FloatValues.{round-least, round-most, no-inf, no-nan-fin}
 use Rattle.numbers.specs.Numbers.{convert}
+use Rattle.numbers.specs.Nearest.{Value}
 use Rattle.numbers.specs.Root.{sqrtOf}
 use Rattle.numbers.specs.Faithful.{root-under, root-over}
 use Rattle.routines.specs.Hypotenuse.{infinite, rootOfSquares, hypotenuseOf}
-use Rattle.routines.specs.Squares.{square-is, nonneg-of, nonneg-finite, lt-clash, gt-clash, not-under, convert-up, sqrt-up}
+use Rattle.routines.specs.Squares.{square-is, nonneg-of, nonneg-finite, lt-clash, gt-clash, not-under, convert-up, convert-fits, sqrt-up}
 
 -- ---- the square of a value of binary32 is a value of binary64
 poly : (a b d u P R : ℕ) → a * P ≡ d * u * b → a * a * (P * P * R) ≡ d * d * (u * u * R) * (b * b)
@@ -272,3 +273,14 @@ pub hypotenuse-between : (x y v : Float) → T (finite x) → T (finite y) → T
 hypotenuse-between x y v h k F G N H =
     subst (Between x y v) (sym (finite-is-root x y h k))
     (record { above-lower = neighbour-below x y v h k F G N H; below-upper = neighbour-above x y v h k F G N H })
+
+-- and the result is a value of binary32: a number that is not negative, or the infinity, never a NaN
+root-value : (x y : Float) → T (finite x) → T (finite y) → T (fits binary32 x) → T (fits binary32 y) → Value binary32 (rootOfSquares x y)
+unfolding rootOfSquares
+root-value x y h k F G =
+    let q = sqrtOf binary64 (squares x y) in
+    let u = sqrt-up binary64 (squares x y) (squares-nonneg x y h k F G) in
+    record { held = convert-fits binary32 q u; plain = convert-up binary32 q u }
+
+pub hypotenuse-value : (x y : Float) → T (finite x) → T (finite y) → T (fits binary32 x) → T (fits binary32 y) → Value binary32 (hypotenuseOf x y)
+hypotenuse-value x y h k F G = subst (Value binary32) (sym (finite-is-root x y h k)) (root-value x y h k F G)

@@ -1,4 +1,4 @@
--- What a comparison says where the values are not negative: `lt` and `le` exclude each other, narrowing and the root keep the sign, and squares. Assumes nothing.
+-- What a comparison says where the values are not negative: `lt` and `le` exclude each other, narrowing and the root keep the sign, what is narrowed fits the format, and squares. Assumes nothing.
 use mathlib.Core.Path.{_≡_, refl}
 use mathlib.Core.Logic.{inl, inr}
 use Prim.Native.Nat.{ℕ, zero, suc, _*_, _≤_, _<_}
@@ -6,8 +6,8 @@ use native.Mathlib.Omega.{arith}
 use mathlib.Core.Bool.{Bool, true, false, not, _&&_, _||_, true≢false}
 use lib.IntN.{ℤ}
 use lib.Dec.{T, ltb, eqb, ltb→lt, nltb→le, eqb→eq}
-use lib.Ieee.{Float, nan, inf, fin, Format, up, down, round, mul, lt, le}
-use lib.Ieee.Fits.{and-l}
+use lib.Ieee.{Float, nan, inf, fin, Format, up, down, round, mul, lt, le, fits}
+use lib.Ieee.Fits.{and-l, round-fits, inf-fits}
 use lib.Ieee.Exact.{HasValue}
 use lib.Ieee.Scale.{finite}
 use Rattle.laws.specs.FloatOrder.{nonneg, or-split}
@@ -77,6 +77,12 @@ convert-up f (inf true) u = absurd u
 convert-up f (inf false) u = tt
 convert-up f (fin true m e) u = absurd u
 convert-up f (fin false m e) u = round-signed false f (m * up e) (down e)
+
+pub convert-fits : (f : Format) (x : Float) → T (signed false x) → T (fits f (convert f x))
+unfolding convert
+convert-fits f nan u = absurd u
+convert-fits f (inf s) u = inf-fits f s
+convert-fits f (fin s m e) u = round-fits f s (m * up e) (down e)
 
 pub sqrt-up : (f : Format) (s : Float) → T (nonneg s) → T (signed false (sqrtOf f s))
 unfolding sqrtOf

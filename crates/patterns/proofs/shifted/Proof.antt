@@ -2,11 +2,10 @@
 use mathlib.Core.Path.{sym, subst}
 use lib.Ieee.{fits}
 use borrow.Author.Needs.{needs}
-use Prim.Native.Nat.{ℕ, _<_, _≤_}
+use Prim.Native.Nat.{ℕ, _/_, _^_, _<_, _≤_}
 use lib.Pow.{pow-pos, pow-mono}
 use native.Mathlib.Omega.{arith}
-use mir.Facts.{fits-of-lt}
-use Rattle.patterns.specs.Shift.{far, is-down, is-up, is-tie, half-fits, half-fits-2}
+use Rattle.patterns.specs.Shift.{far, is-down, is-up, is-tie, quotient-lt}
 use Rattle.patterns.proofs.shifted.Statement.{statement}
 use Rattle.patterns.proofs.shifted.Tie as tie
 
@@ -28,20 +27,15 @@ sub-pow2 c = search needs
 pow2-requires-2 : tie.Need-pow2-requires-2
 pow2-requires-2 c κs = search needs
 
-wide2 : (c : tie.After-pow2) → 2 ≤ c .pow2 .result
-wide2 c = subst (λ (x : ℕ). 2 ≤ x) (sym (c .pow2 .ensures)) (pow-mono (c .before .before .pre .1))
-
-twoish : (c : tie.Then3) → 2 ≤ c .before .before .before .pow2 .result
-twoish c = wide2 (c .before .before .before)
-
-twoish-2 : (c : tie.Else3) → 2 ≤ c .before .before .before .pow2 .result
-twoish-2 c = wide2 (c .before .before .before)
+-- the unit is 2 at least, so that the quotient leaves room for one more
+room : (c : tie.After-pow2) → c .before .before .args .n / c .pow2 .result < 2 ^ 63
+room c = quotient-lt (c .before .before .args .n) (c .pow2 .result) (omega (arith, c .before .before .fits .n)) (subst (λ (x : ℕ). 2 ≤ x) (sym (c .pow2 .ensures)) (pow-mono (c .before .before .pre .1)))
 
 add-result : tie.Need-add-result
-add-result c = fits-of-lt (half-fits (c .before .before .before .before .before .args .n) (c .before .before .before .pow2 .result) (omega (arith, c .before .before .before .before .before .fits .n)) (twoish c))
+add-result c = omega (arith, room (c .before .before .before))
 
 add-result-2 : tie.Need-add-result-2
-add-result-2 c = fits-of-lt (half-fits-2 (c .before .before .before .before .before .args .n) (c .before .before .before .pow2 .result) (omega (arith, c .before .before .before .before .before .fits .n)) (twoish-2 c))
+add-result-2 c = omega (arith, room (c .before .before .before))
 
 returns-2 : tie.Need-returns-2
 returns-2 c =

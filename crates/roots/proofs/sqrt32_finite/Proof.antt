@@ -91,6 +91,10 @@ module _ (c : tie.After-root) where
   small : (p + 165 - y a) / 2 * 8388608 + (w c + 1) / 2 < 255 * 8388608
   small = small-32 p (y a) ((w c + 1) / 2) (a .before .pre .1 .1) half
 
+-- below the infinity's pattern lies no NaN's
+plain : (q : ℕ) → q < 255 * 8388608 → T (not (nanBits binary32 q))
+plain q h = subst (λ (x : ℕ). T (not (nanBits binary32 x))) (zero-add q) (no-nan-bits binary32 false q (le-of-lt h))
+
 add-result-2 : tie.Need-add-result-2
 add-result-2 c = omega (arith, half c)
 
@@ -101,9 +105,7 @@ cast-result : tie.Need-cast-result
 cast-result c = omega (arith, small c)
 
 float-from-bits-result : tie.Need-float-from-bits-result
-float-from-bits-result c =
-    let q = (p c + 165 - y (a c)) / 2 * 8388608 + (w c + 1) / 2 in
-    subst (λ (x : ℕ). T (not (nanBits binary32 x))) (zero-add q) (no-nan-bits binary32 false q (le-of-lt (small c)))
+float-from-bits-result c = plain _ (omega (arith, small c))
 
 returns : tie.Need-returns
 returns c = sym (is-root binary32 (d c) (p c) (z c) (w c) ((p c + z c + 1) % 2) ((p c + 165 - y (a c)) / 2) 165 (leads (a c)) (bit-le (p c + z c + 1)) (even c) refl (deep-32 (z c) ((p c + z c + 1) % 2) (tall (a c)) (bit-le (p c + z c + 1))) (lo c) (hi c) (small c))

@@ -1,14 +1,14 @@
 -- `numbers::narrow::narrow_everyday` meets its contract. Assumes nothing.
 use mathlib.Core.Path.{_≡_, sym, ap, _∙_, subst}
 use mathlib.Core.Bool.{not, cond}
-use Prim.Native.Nat.{ℕ, _+_, _*_, _/_, _^_, _<_}
-use native.Mathlib.Nat.{le-of-lt, lt-of-lt-of-le}
+use Prim.Native.Nat.{ℕ, _+_, _*_, _/_, _^_, _<_, _≤_}
+use native.Mathlib.Nat.{lt-of-lt-of-le}
 use native.Mathlib.Omega.{arith}
 use lib.Dec.{T, leb, lit≤}
 use lib.Ieee.{binary32, ofBits, nanBits}
 use mir.Facts.{fits-of-lt}
 use Rattle.laws.specs.FloatPack.{no-nan-bits}
-use Rattle.numbers.proofs.Narrowing.{Everyday, everyday, kept, kept-lt, everyday-is, sign-bit, pattern-lt}
+use Rattle.numbers.proofs.Narrowing.{Everyday, everyday, kept, everyday-is, sign-bit}
 use borrow.Author.Needs.{needs}
 use Rattle.numbers.proofs.narrow.narrow_everyday.Statement.{statement}
 use Rattle.numbers.proofs.narrow.narrow_everyday.Tie as tie
@@ -27,8 +27,12 @@ fits-b c = omega (arith, c .fits .b)
 whole : (c : tie.Start) → b c / 9223372036854775808 * 2147483648 + kept (b c) (day c) ≡ cond (leb 9223372036854775808 (b c)) 2147483648 0 + kept (b c) (day c)
 whole c = ap (λ (x : ℕ). x + kept (b c) (day c)) (sign-bit (b c) (fits-b c))
 
-below : (c : tie.Start) → b c / 9223372036854775808 * 2147483648 + kept (b c) (day c) < 2 ^ 32
-below c = subst (λ (x : ℕ). x < 2 ^ 32) (sym (whole c)) (pattern-lt (leb 9223372036854775808 (b c)) (kept (b c) (day c)) (le-of-lt (kept-lt (b c) (day c))))
+-- 32 bits and no NaN's pattern, whatever the digits round to
+below : (b z : ℕ) → b < 2 ^ 64 → z ≤ 2139095040 → b / 9223372036854775808 * 2147483648 + z < 2 ^ 32
+below b z h k = omega arith
+
+plain : (b z : ℕ) → b < 2 ^ 64 → z ≤ 2139095040 → T (not (nanBits binary32 (b / 9223372036854775808 * 2147483648 + z)))
+plain b z h k = subst (λ (x : ℕ). T (not (nanBits binary32 (x + z)))) (sym (sign-bit b h)) (no-nan-bits binary32 (leb 9223372036854775808 b) z k)
 
 sub-t : tie.Need-sub-t
 sub-t c = let h = day c .least in omega arith
@@ -43,13 +47,13 @@ mul-result : tie.Need-mul-result
 mul-result c = search needs
 
 add-result : tie.Need-add-result
-add-result c = fits-of-lt (lt-of-lt-of-le (below c) (lit≤ tt))
+add-result c = fits-of-lt (lt-of-lt-of-le (below (b c) _ (fits-b c) (omega (arith, day c .least, day c .most))) (lit≤ tt))
 
 cast-result : tie.Need-cast-result
-cast-result c = fits-of-lt (below c)
+cast-result c = omega (arith, fits-b c, day c .least, day c .most)
 
 float-from-bits-result : tie.Need-float-from-bits-result
-float-from-bits-result c = subst (λ (x : ℕ). T (not (nanBits binary32 x))) (sym (whole c)) (no-nan-bits binary32 (leb 9223372036854775808 (b c)) (kept (b c) (day c)) (le-of-lt (kept-lt (b c) (day c))))
+float-from-bits-result c = plain (b c) _ (fits-b c) (omega (arith, day c .least, day c .most))
 
 returns : tie.Need-returns
 returns c = ap (ofBits binary32) (whole c) ∙ everyday-is (b c) (day c) (leb 9223372036854775808 (b c))
