@@ -152,7 +152,7 @@ module _ (b : ℕ) (E : Everyday b) where
   abbrev pub kept : ℕ
   kept = (moved + 268435455 + moved / 536870912 % 2) / 536870912
 
-  kept-lt : kept < 2139095040
+  pub kept-lt : kept < 2139095040
   kept-lt = let l = E .least in let h = E .most in omega arith
 
   -- the exponent's field less 897, and the digits
