@@ -1,7 +1,8 @@
--- `receive::turned` is safe, ends, and moves on. Assumes nothing.
+-- `receive::turned` meets its contract. Assumes nothing.
 use mathlib.Core.Path.{sym}
 use lib.Seq.{length-take-le}
-use Rattle.receive.specs.StepLaws.{wanted-fits, moves-stopped}
+use Rattle.program.specs.StepLaws.{wanted-fits, moves-stopped}
+use Rattle.receive.specs.Laws.{waited-room, turn-written, turn-stopped}
 use borrow.Author.Needs.{needs}
 use Rattle.receive.proofs.turned.Statement.{statement}
 use Rattle.receive.proofs.turned.Tie as tie
@@ -34,7 +35,7 @@ same-length : tie.Need-same-length
 same-length c = search needs
 
 returns : tie.Need-returns
-returns c = search needs
+returns c = (turn-written _ _ _ _ _ _ _ (c .before .before .before .before .before .before .before .before .fed .ensures .0) (waited-room (c .before .before .before .before .before .before .before .before .before .before .before .before .before .before .args .p .stage) _ _ (c .before .before .before .before .before .before .before .before .fed .last .1 .0) (c .before .before .before .before .before .before .before .before .fed .kept .1 .0) (c .before .before .before .before .before .before .before .before .before .before .before .before .wanted .ensures)) (c .before .before .before .before .before .before .before .before .fed .ensures .1 .0) (c .before .before .before .before .before .before .before .before .fed .ensures .1 .1 .0), c .before .before .before .before .before .before .before .before .fed .ensures .1 .1 .1 .1 .1)
 
 stopped-requires : tie.Need-stopped-requires
 stopped-requires c κs = search needs
@@ -43,7 +44,7 @@ same-length-2 : tie.Need-same-length-2
 same-length-2 c = search needs
 
 returns-2 : tie.Need-returns-2
-returns-2 c = moves-stopped _ _ (c .before .before .before .before .before .before .before .before .fed .result) _ (c .before .before .before .before .before .before .before .before .fed .ensures .1 .1) (c .stopped .ensures)
+returns-2 c = (turn-stopped _ _ _ _ _ _ _ (c .before .before .before .before .before .before .before .before .before .fed .ensures .0) (waited-room (c .before .before .before .before .before .before .before .before .before .before .before .before .before .before .before .args .p .stage) _ _ (c .before .before .before .before .before .before .before .before .before .fed .last .1 .0) (c .before .before .before .before .before .before .before .before .before .fed .kept .1 .0) (c .before .before .before .before .before .before .before .before .before .before .before .before .before .wanted .ensures)) (c .before .before .before .before .before .before .before .before .before .fed .ensures .1 .0) (c .before .before .before .before .before .before .before .before .before .fed .ensures .1 .1 .0) _ (c .stopped .ensures), moves-stopped _ _ (c .before .before .before .before .before .before .before .before .before .fed .result .program) _ (c .before .before .before .before .before .before .before .before .before .fed .ensures .1 .1 .1 .1 .1) (c .stopped .ensures))
 
 pub turned-spec : {M : Type 1} → statement M
 turned-spec =
