@@ -19,7 +19,8 @@ const STDIN: i32 = 0;
 
 const STDOUT: i32 = 1;
 
-// How many bytes came, and the program after the step over them.
+// How many bytes came, and the program after the step over them. The count is handed back so that the
+// contract can say over which bytes the step was taken.
 struct Feeding {
     got: usize,
     program: Program,
