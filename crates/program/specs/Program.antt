@@ -112,8 +112,12 @@ tableOf (Samples left) bytes table = table
 tableOf End bytes table = table
 tableOf Done bytes table = table
 
+-- ---- a program whose text could not be written is stopped
 abbrev pub stoppedOf : Program → Program
 stoppedOf p = record { stage = Done; receiver = p .receiver; overload = p .overload; end = 0 }
+
+abbrev pub goneOn : Program → Bool → Program
+goneOn p written = cond written p (stoppedOf p)
 
 -- ---- the samples that can still come, and the stages
 abbrev pub leftOf : Stage → ℕ

@@ -21,7 +21,7 @@ use Rattle.program.specs.declared.step.Stage.{Stage}
 use Rattle.program.specs.declared.step.Stage.the-variants.{Head, Settings, Count, Samples, End, Done}
 use Rattle.program.specs.declared.step.Program.{Program}
 use Rattle.program.specs.Answer.{Told, toldNow, toldOf, totalsOf}
-use Rattle.program.specs.Program.{nextOf, wantedOf, startedOf, Ran, ranNow, onTo, refusedRan, malformed, headGood, headOf, setUpOf, setUpRan, settingsOf, settingsTable, stageOf, countOf, blockRan, samplesOf, endOf, stepOf, tableOf, stoppedOf, leftOf, restOf, Moves}
+use Rattle.program.specs.Program.{nextOf, wantedOf, startedOf, Ran, ranNow, onTo, refusedRan, malformed, headGood, headOf, setUpOf, setUpRan, settingsOf, settingsTable, stageOf, countOf, blockRan, samplesOf, endOf, stepOf, tableOf, goneOn, leftOf, restOf, Moves}
 
 -- ---- where the samples go
 pub stage-some : (left : ℕ) → 0 < left → Samples left ≡ stageOf left
@@ -209,9 +209,10 @@ samples-asks s left overload e h k =
 pub done-waits : {A : Type 0} (s : Stage) → s ≡ Done → 0 < wantedOf s → A
 done-waits s e h = let a : 0 < wantedOf Done = subst (λ (x : Stage). 0 < wantedOf x) e h in absurd (omega arith)
 
--- ---- stopped after a step
-pub moves-stopped : (s : Stage) (o : ℕ) (q x : Program) → Moves s o (q .stage) (q .overload) → x ≡ stoppedOf q → Moves s o (x .stage) (x .overload)
-moves-stopped s o q x m e = let a = m .few in let b = m .less in rw e (record { few = omega arith; less = omega arith })
+-- ---- gone on after a step, or stopped
+pub moves-gone : (s : Stage) (o : ℕ) (q x : Program) (written : Bool) → Moves s o (q .stage) (q .overload) → x ≡ goneOn q written → Moves s o (x .stage) (x .overload)
+moves-gone s o q x true m e = rw e m
+moves-gone s o q x false m e = let a = m .few in let b = m .less in rw e (record { few = omega arith; less = omega arith })
 
 -- the bytes read at once
 pub wanted-fits : (s : Stage) (want : ℕ) → want ≡ wantedOf s → want ≤ 8192

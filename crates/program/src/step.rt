@@ -6,7 +6,7 @@ ghost use lib.ListN.{length};
 ghost use Rattle.admission.specs.Refusal.{numberOf};
 ghost use Rattle.recording.specs.Text.{writtenOf};
 ghost use Rattle.program.specs.declared.step.Stage.the-variants.{Head, Settings, Count, Samples, End};
-ghost use Rattle.program.specs.Program.{nextOf, wantedOf, startedOf, ranNow, refusedRan, headGood, headOf, settingsOf, settingsTable, stageOf, countOf, samplesOf, endOf, stepOf, tableOf, stoppedOf, leftOf, Moves};
+ghost use Rattle.program.specs.Program.{nextOf, wantedOf, startedOf, ranNow, refusedRan, headGood, headOf, settingsOf, settingsTable, stageOf, countOf, samplesOf, endOf, stepOf, tableOf, goneOn, leftOf, Moves};
 use crate::answer::answered;
 use crate::answer::closed;
 use admission::refusal::Verdict;
@@ -262,10 +262,13 @@ pub fn stepped(p: Program, bytes: &[u8], table: &mut [f32], text: &mut [u8]) -> 
     }
 }
 
-// A program that goes no further.
-pub fn stopped(p: Program) -> Program
-    ensures { λ q. ⌜ q ≡ stoppedOf p ⌝ }
+// A program whose text could not be written goes no further.
+pub fn gone_on(p: Program, written: bool) -> Program
+    ensures { λ q. ⌜ q ≡ goneOn p written ⌝ }
 {
+    if written {
+        return p;
+    }
     let r = p.receiver;
     Program {
         stage: Stage::Done,

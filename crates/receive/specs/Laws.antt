@@ -1,6 +1,6 @@
 -- A turn from the step over the first bytes of a buffer. Assumes nothing.
 use mathlib.Core.Path.{_≡_, ap, _∙_}
-use mathlib.Core.Bool.{true, false}
+use mathlib.Core.Bool.{Bool}
 use mathlib.Core.List.{List}
 use Prim.Native.Nat.{ℕ, _≤_}
 use native.Mathlib.Omega.{arith}
@@ -8,7 +8,7 @@ use lib.ListN.{length, take, replicate, length-take}
 use lib.Ieee.{Float}
 use Rattle.program.specs.declared.step.Stage.{Stage}
 use Rattle.program.specs.declared.step.Program.{Program}
-use Rattle.program.specs.Program.{Ran, wantedOf, ranNow, stepOf, tableOf, stoppedOf}
+use Rattle.program.specs.Program.{Ran, wantedOf, ranNow, stepOf, tableOf, goneOn}
 use Rattle.receive.specs.Turn.{leftBy, Turn}
 
 -- the bytes lent are the first of a buffer, as many as are waited for
@@ -21,8 +21,5 @@ module _ (p q : Program) (table after : List Float) (got : ℕ) (bytes text : Li
   few : length (take got bytes) ≤ wantedOf (p .stage)
   few = let e = length-take got bytes in omega arith
 
-  pub turn-written : Turn p table q after
-  turn-written = record { came = take got bytes; few = few; written = true; same = ap leftBy same; made = made }
-
-  pub turn-stopped : (x : Program) → x ≡ stoppedOf q → Turn p table x after
-  turn-stopped x e = record { came = take got bytes; few = few; written = false; same = e ∙ ap (λ (y : Ran). stoppedOf (leftBy y)) same; made = made }
+  pub turned-is : (x : Program) (written : Bool) → x ≡ goneOn q written → Turn p table x after
+  turned-is x written e = record { came = take got bytes; few = few; written = written; same = e ∙ ap (λ (y : Ran). goneOn (leftBy y) written) same; made = made }

@@ -1,12 +1,12 @@
 -- A turn of the sample program: some bytes came, and the step was taken over them. Definitions only.
 use Prim.Native.Nat.{ℕ, _≤_}
 use mathlib.Core.Path.{_≡_}
-use mathlib.Core.Bool.{Bool, cond}
+use mathlib.Core.Bool.{Bool}
 use mathlib.Core.List.{List}
 use lib.ListN.{length, replicate}
 use lib.Ieee.{Float}
 use Rattle.program.specs.declared.step.Program.{Program}
-use Rattle.program.specs.Program.{Ran, wantedOf, stepOf, tableOf, stoppedOf}
+use Rattle.program.specs.Program.{Ran, wantedOf, stepOf, tableOf, goneOn}
 
 -- the program that a step leaves; its text ends where it says
 abbrev pub leftBy : Ran → Program
@@ -22,5 +22,5 @@ pub record Turn (p : Program) (table : List Float) (q : Program) (after : List F
   pub came : List ℕ
   pub few : length came ≤ wantedOf (p .stage)
   pub written : Bool
-  pub same : q ≡ cond written (steppedBy p came table) (stoppedOf (steppedBy p came table))
+  pub same : q ≡ goneOn (steppedBy p came table) written
   pub made : after ≡ tableOf (p .stage) came table

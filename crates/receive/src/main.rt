@@ -10,9 +10,9 @@ ghost use lib.ListN.{length, take};
 ghost use Rattle.program.specs.Program.{wantedOf, leftOf, ranNow, stepOf, tableOf, Moves};
 ghost use Rattle.receive.specs.Turn.{Turn};
 use program::step::Program;
+use program::step::gone_on;
 use program::step::started;
 use program::step::stepped;
-use program::step::stopped;
 use program::step::wanted;
 
 const STDIN: i32 = 0;
@@ -57,10 +57,8 @@ fn turned(p: Program, table: &mut [f32]) -> Program
     let f = fed(p, &mut bytes[..want], table, &mut text);
     let q = f.program;
     let end = q.end;
-    if io::write_all(STDOUT, &text[..end]) {
-        return q;
-    }
-    stopped(q)
+    let written = io::write_all(STDOUT, &text[..end]);
+    gone_on(q, written)
 }
 
 // A turn for each thing that is waited for; the table has room for 16,384 taps.
