@@ -67,6 +67,9 @@ const AFTER_STAGES: &str = "
   sequence inputs > LIST | sequence answers < LIST
       runs of the detector, from fresh and from states made from seeds; a line per step, the digest of
       its answer and of the whole state after it
+  recordings inputs > LIST | recordings answers < LIST
+      recordings for the sample program: each refusal that it can give, each way to be malformed, and
+      good ones; a line with number and length, then what the program writes
   tables source | tables bits
       crates/taps/src/table.rt and crates/taps/specs/TapBits.antt, as oracle/check-tables wants them
 

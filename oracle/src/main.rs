@@ -43,6 +43,7 @@ mod plan;
 mod random;
 mod random_state;
 mod receive;
+mod recording_list;
 mod resampler_list;
 mod routine_list;
 mod samples;
@@ -94,6 +95,7 @@ fn run(words: &[&str]) -> Outcome {
         ["front", rest @ ..] => front_list::run(rest),
         ["oscillator", rest @ ..] => oscillator_list::run(rest),
         ["sequence", rest @ ..] => sequence_list::run(rest),
+        ["recordings", rest @ ..] => recording_list::run(rest),
         ["tables", rest @ ..] => tables::run(rest),
         ["resampler", rest @ ..] => resampler_list::run(rest),
         ["taps", rest @ ..] => taps::run(rest),

@@ -18,10 +18,14 @@ enum Ending {
 pub fn receive() -> Result<(), String> {
     let mut input = BufReader::new(io::stdin());
     let mut output = BufWriter::new(io::stdout());
-    let ending = program(&mut input, &mut output)?;
-    closing(ending, &mut output)
-        .and_then(|()| output.flush())
-        .map_err(|e| e.to_string())
+    answered(&mut input, &mut output)?;
+    output.flush().map_err(|e| e.to_string())
+}
+
+/// All that the program writes for a recording.
+pub fn answered(input: &mut impl Read, output: &mut impl Write) -> Result<(), String> {
+    let ending = program(input, output)?;
+    closing(ending, output).map_err(|e| e.to_string())
 }
 
 fn closing(ending: Ending, output: &mut impl Write) -> io::Result<()> {

@@ -1,5 +1,2 @@
-pub mod Answer
 pub mod Laws
-pub mod Program
-pub mod StepLaws
-pub mod Whole
+pub mod Turn

@@ -4,8 +4,8 @@ use Prim.Native.Nat.{_+_, _≤_}
 use native.Mathlib.Omega.{arith}
 use lib.ListN.{length, length-replicate}
 use lib.Ieee.{Float, binary32, ofBits}
-use Rattle.receive.specs.Program.{leftOf, restOf}
-use Rattle.receive.specs.StepLaws.{started-fits, still-waits, moves-fit}
+use Rattle.program.specs.Program.{leftOf, restOf}
+use Rattle.program.specs.StepLaws.{started-fits, still-waits, moves-fit}
 use borrow.Author.Needs.{needs}
 use Rattle.receive.proofs.main.Statement.{statement}
 use Rattle.receive.proofs.main.Tie as tie
@@ -32,10 +32,10 @@ turned-requires : tie.Need-turned-requires Inv-loop μ-loop
 turned-requires c κs = (still-waits _ _ _ (c .before .before .before .loop .inv .0) (c .before .before .wanted .ensures) (omega (arith, c .before .if1 .taken)), c .before .before .before .loop .inv .1)
 
 loop-less : tie.Need-loop-less Inv-loop μ-loop
-loop-less c = c .before .turned .ensures .less
+loop-less c = c .before .turned .ensures .1 .less
 
 loop-again : tie.Need-loop-again Inv-loop μ-loop
-loop-again c = (refl, moves-fit _ _ _ _ (c .before .turned .ensures) (c .before .before .before .before .before .loop .inv .1), search needs)
+loop-again c = (refl, moves-fit _ _ _ _ (c .before .turned .ensures .1) (c .before .before .before .before .before .loop .inv .1), search needs)
 
 returns : tie.Need-returns Inv-loop μ-loop
 returns c = search needs

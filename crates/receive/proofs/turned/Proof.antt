@@ -1,7 +1,8 @@
--- `receive::turned` is safe, ends, and moves on. Assumes nothing.
+-- `receive::turned` meets its contract. Assumes nothing.
 use mathlib.Core.Path.{sym}
 use lib.Seq.{length-take-le}
-use Rattle.receive.specs.StepLaws.{wanted-fits, moves-stopped}
+use Rattle.program.specs.StepLaws.{wanted-fits, moves-gone}
+use Rattle.receive.specs.Laws.{waited-room, turned-is}
 use borrow.Author.Needs.{needs}
 use Rattle.receive.proofs.turned.Statement.{statement}
 use Rattle.receive.proofs.turned.Tie as tie
@@ -30,20 +31,14 @@ slice-aggregate-write-all c = sym (length-take-le _ _ (search needs))
 write-all-requires : tie.Need-write-all-requires
 write-all-requires c κs = search needs
 
+gone-on-requires : tie.Need-gone-on-requires
+gone-on-requires c κs = search needs
+
 same-length : tie.Need-same-length
 same-length c = search needs
 
 returns : tie.Need-returns
-returns c = search needs
-
-stopped-requires : tie.Need-stopped-requires
-stopped-requires c κs = search needs
-
-same-length-2 : tie.Need-same-length-2
-same-length-2 c = search needs
-
-returns-2 : tie.Need-returns-2
-returns-2 c = moves-stopped _ _ (c .before .before .before .before .before .before .before .before .fed .result) _ (c .before .before .before .before .before .before .before .before .fed .ensures .1 .1) (c .stopped .ensures)
+returns c = (turned-is _ _ _ _ _ _ _ (c .before .before .before .before .before .before .before .before .fed .ensures .0) (waited-room (c .before .before .before .before .before .before .before .before .before .before .before .before .before .before .args .p .stage) _ _ (c .before .before .before .before .before .before .before .before .fed .last .1 .0) (c .before .before .before .before .before .before .before .before .fed .kept .1 .0) (c .before .before .before .before .before .before .before .before .before .before .before .before .wanted .ensures)) (c .before .before .before .before .before .before .before .before .fed .ensures .1 .0) (c .before .before .before .before .before .before .before .before .fed .ensures .1 .1 .0) _ (c .before .write-all .result) (c .gone-on .ensures), moves-gone _ _ (c .before .before .before .before .before .before .before .before .fed .result .program) _ (c .before .write-all .result) (c .before .before .before .before .before .before .before .before .fed .ensures .1 .1 .1 .1 .1) (c .gone-on .ensures))
 
 pub turned-spec : {M : Type 1} → statement M
 turned-spec =
@@ -57,8 +52,6 @@ turned-spec =
     array-share-prefix-text
     slice-aggregate-write-all
     write-all-requires
+    gone-on-requires
     same-length
-    returns
-    stopped-requires
-    same-length-2
-    returns-2)
+    returns)
