@@ -8,3 +8,7 @@ pub mod Tables
 pub mod Taken
 pub mod Small
 pub mod Decimates
+pub mod Calls
+pub mod Counts
+pub mod CostsKept
+pub mod Unique

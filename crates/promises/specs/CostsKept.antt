@@ -1,0 +1,101 @@
+-- From an accepted setup, through any calls, each of the detector's 64 costs stays within 0 to 48, exactly in f32 and whatever the samples are. Assumes nothing.
+use mathlib.Core.Path.{_≡_, refl, sym, _∙_, subst}
+use mathlib.Core.Bool.{Bool, true, false}
+use mathlib.Core.List.{List, [], _∷_}
+use Prim.Native.Nat.{ℕ, _<_}
+use lib.Dec.{eqb}
+use lib.IntN.{ℤ}
+use lib.ListN.{getD, getD-replicate}
+use lib.Ieee.{Float, nan}
+use borrow.Author.Tests.{eqb-true, eqb-false}
+use Rattle.laws.specs.FloatSums.{In}
+use Rattle.complex.specs.declared.Complex32.{Complex32}
+use Rattle.taps.specs.Taps.{bothTables}
+use Rattle.peak.specs.declared.Level.{Level}
+use Rattle.peak.specs.declared.Level.the-variants.{Filling, At}
+use Rattle.peak.specs.Peak as peak
+use Rattle.filter.specs.Filter.{Windows}
+use Rattle.clock.specs.declared.Answer as clock
+use Rattle.clock.specs.declared.Answer.the-variants.{NoSymbol, Symbol}
+use Rattle.equalizer.specs.Equalizer as equalizer
+use Rattle.trellis.specs.Metric.{c0, nought}
+use Rattle.trellis.specs.Costs.{c48, Good, fresh-good, good-same}
+use Rattle.trellis.specs.Bound.{good-step}
+use Rattle.sequence.specs.declared.soft.Soft.{Soft}
+use Rattle.sequence.specs.Sequence as sequence
+use Rattle.carrier.specs.Carrier as carrier
+use Rattle.chain.specs.Chain.{ChainState, heardOf, withKeeper, withClock, clockRun, symbolOf, levelOf, steppedOf}
+use Rattle.chain.specs.Rows.{Told, start, told, ranOf, chainOf}
+use Rattle.admission.specs.declared.state.Receiver.{Receiver}
+use Rattle.admission.specs.State.{zero32, freshReceiver}
+use Rattle.samples.specs.Run.{wholeOf}
+use Rattle.receiver.specs.Setup.{setupOf}
+use Rattle.receiver.specs.Block.{startOf, Outcome}
+use Rattle.promises.specs.Deliveries.{valuesOf, afterOf, accepted-is}
+use Rattle.promises.specs.Written.{refused-keeps}
+use Rattle.promises.specs.Tables.{setup-fresh}
+use Rattle.promises.specs.Taken.{Call, answeredOf}
+use Rattle.promises.specs.Calls.{stateAfter}
+
+-- the invariant that a step of the trellis keeps
+abbrev GoodCosts : List Float → Type 0
+GoodCosts costs = Good (λ s. getD costs s nan)
+
+-- ---- a value: the costs stay as they are, or the trellis takes a step
+symbol-keeps : (a : clock.Answer) (w : Windows) (s : ChainState) (reliable : Bool) (oldest : Soft) → GoodCosts (s .costs) → GoodCosts (symbolOf a w s reliable oldest .state .costs)
+unfolding symbolOf heardOf carrier.carriedOf sequence.detectedOf sequence.detectedWith
+symbol-keeps NoSymbol w s reliable oldest g = g
+symbol-keeps (Symbol arm from) w s reliable oldest g =
+    let e = equalizer.equalizedOf (s .weights) (equalizer.rowOf (w .real) (w .imaginary)) (equalizer.rowOf (w .derivativeReal) (w .derivativeImaginary)) reliable in
+    good-step (s .channels) (s .costs) (carrier.correctedOf (s .place .carrier .turn) (e .equalized .value)) reliable g
+
+module _ (taps derivatives : List Float) where
+  level-keeps : (l : Level) (s : ChainState) (oldest : Soft) → GoodCosts (s .costs) → GoodCosts (levelOf taps derivatives l s oldest .state .costs)
+  unfolding levelOf
+  level-keeps Filling s oldest g = g
+  level-keeps (At z reliable) s oldest g =
+      let r = clockRun taps derivatives s z in
+      symbol-keeps (r .stepped .answer) (r .windows) (withClock s r) reliable oldest g
+
+  step-keeps : (s : ChainState) (z : Complex32) (oldest : Soft) → GoodCosts (s .costs) → GoodCosts (steppedOf taps derivatives s z oldest .state .costs)
+  unfolding steppedOf
+  step-keeps s z oldest g =
+      let k = peak.keptOf (s .place .keeper) z (s .keeper) in
+      level-keeps (k .kept .level) (withKeeper s (k .kept .place) (k .ring)) oldest g
+
+  values-keep : (values : List Complex32) (t : Told) → GoodCosts (t .state .costs) → GoodCosts (ranOf taps derivatives values t .state .costs)
+  unfolding ranOf told
+  values-keep [] t g = g
+  values-keep (z ∷ values) t g = values-keep values (told taps derivatives t z) (step-keeps (t .state) z _ g)
+
+-- ---- a call, and calls one after the other
+after-keeps : (r : Receiver) (table xs : List Float) → GoodCosts (r .costs) → GoodCosts (afterOf r table xs .costs)
+unfolding afterOf wholeOf chainOf
+after-keeps r table xs g = values-keep (bothTables .taps) (bothTables .derivatives) (valuesOf r table xs) (start (startOf r [] [] .lent .state) (r .records .slots)) g
+
+call-keeps : (r : Receiver) (c : Call) → GoodCosts (r .costs) → GoodCosts (answeredOf r c .receiver .costs)
+call-keeps r c g = go (eqb (answeredOf r c .number) 0) refl
+  where
+    go : (b : Bool) → eqb (answeredOf r c .number) 0 ≡ b → GoodCosts (answeredOf r c .receiver .costs)
+    go true e =
+        let is = accepted-is r (c .table) (c .samples) (c .dibits) (c .reliabilities) (eqb-true (answeredOf r c .number) 0 e) in
+        subst (λ (o : Outcome). GoodCosts (o .receiver .costs)) (sym is) (after-keeps r (c .table) (c .samples) g)
+    go false e =
+        let is = refused-keeps r (c .table) (c .samples) (c .dibits) (c .reliabilities) (eqb-false (answeredOf r c .number) 0 e) .0 in
+        subst (λ (q : Receiver). GoodCosts (q .costs)) (sym is) g
+
+calls-keep : (r : Receiver) (cs : List Call) → GoodCosts (r .costs) → GoodCosts (stateAfter r cs .costs)
+unfolding stateAfter
+calls-keep r [] g = g
+calls-keep r (c ∷ cs) g = calls-keep (answeredOf r c .receiver) cs (call-keeps r c g)
+
+setup-keeps : (rate offset : Float) (profile : ℤ) (table : List Float) → setupOf rate offset profile table .number ≡ 0 → GoodCosts (setupOf rate offset profile table .receiver .costs)
+unfolding freshReceiver
+setup-keeps rate offset profile table h =
+    subst (λ (r : Receiver). GoodCosts (r .costs)) (sym (setup-fresh rate offset profile table h .receiver))
+    (good-same (λ s. c0) _ (λ s l. sym (getD-replicate 64 s zero32 nan l ∙ nought)) fresh-good)
+
+-- THE THEOREM: after an accepted setup and any calls, refused ones among them, each cost lies within 0 to 48
+pub costs-kept : (rate offset : Float) (profile : ℤ) (table : List Float) → setupOf rate offset profile table .number ≡ 0
+    → (cs : List Call) (s : ℕ) → s < 64 → In c0 c48 (getD (stateAfter (setupOf rate offset profile table .receiver) cs .costs) s nan)
+costs-kept rate offset profile table h cs s l = calls-keep (setupOf rate offset profile table .receiver) cs (setup-keeps rate offset profile table h) .ranged s l

@@ -1,0 +1,233 @@
+-- The counts of a state: symbols is the number of dibits delivered since setup, and locked the number of those delivered under lock; from a state handed in both
+-- count on from its values. Assumes nothing.
+use mathlib.Core.Path.{_≡_, refl, sym, ap, _∙_, subst}
+use mathlib.Core.Bool.{Bool, true, false, cond}
+use mathlib.Core.List.{List, [], _∷_, _++_}
+use Prim.Native.Nat.{ℕ, _+_}
+use native.Mathlib.Omega.{arith}
+use lib.Dec.{eqb}
+use lib.IntN.{ℤ}
+use lib.ListN.{length, length-append}
+use lib.Ieee.{Float}
+use borrow.Author.Tests.{eqb-true, eqb-false}
+use Rattle.complex.specs.declared.Complex32.{Complex32}
+use Rattle.taps.specs.Taps.{bothTables}
+use Rattle.peak.specs.declared.Level.{Level}
+use Rattle.peak.specs.declared.Level.the-variants.{Filling, At}
+use Rattle.peak.specs.Peak as peak
+use Rattle.filter.specs.Filter.{Windows}
+use Rattle.clock.specs.declared.Answer as clock
+use Rattle.clock.specs.declared.Answer.the-variants.{NoSymbol, Symbol}
+use Rattle.equalizer.specs.Equalizer as equalizer
+use Rattle.sequence.specs.declared.soft.Soft.{Soft}
+use Rattle.sequence.specs.declared.walk.Answer.{Answer}
+use Rattle.sequence.specs.declared.walk.Answer.the-variants.{Silent, Dibit}
+use Rattle.sequence.specs.Observed.{recordBefore}
+use Rattle.carrier.specs.Carrier as carrier
+use Rattle.chain.specs.declared.step.Outcome.the-variants.{Quiet, Heard}
+use Rattle.labels.specs.Labels.{conjugates, labelledOf, countedOf}
+use Rattle.chain.specs.Chain.{ChainState, Step, waitingOf, toldOf, heardOf, withKeeper, withClock, clockRun, symbolOf, levelOf, steppedOf}
+use Rattle.chain.specs.Rows.{recordsAfter, Told, start, slotAt, nextOf, told, ranOf, chainOf}
+use Rattle.admission.specs.declared.state.Receiver.{Receiver}
+use Rattle.admission.specs.State.{freshReceiver, snapshotOf}
+use Rattle.samples.specs.Run.{wholeOf}
+use Rattle.receiver.specs.Setup.{setupOf}
+use Rattle.receiver.specs.Block.{startOf, Outcome, refusedOf, blockOf}
+use Rattle.promises.specs.Deliveries.{deliveryOf, deliveries, valuesOf, deliveriesOf, afterOf, outcomeOf, length-dibits, accepted-is}
+use Rattle.promises.specs.Compose.{deliveredDibits, dibits-are}
+use Rattle.promises.specs.Written.{refused-is}
+use Rattle.promises.specs.Tables.{setup-fresh}
+use Rattle.promises.specs.Taken.{Call, answeredOf}
+use Rattle.promises.specs.Calls.{stateAfter, dibitsOver, countOver, isLocked, lockedDelivery, lockedDeliveries, lockedDeliveriesOf, lockedOver}
+
+more : (m n x y both : ℕ) → m ≡ n + x → both ≡ x + y → m + y ≡ n + both
+more m n x y both e f = omega arith
+
+-- ---- one value: symbols grows by what it delivers, locked by what it delivers under lock
+record Counting (s : ChainState) (n : Step) : Type 0 where
+  symbols : n .state .place .symbols ≡ s .place .symbols + length (deliveryOf (n .outcome))
+  locked : n .state .place .locked ≡ s .place .locked + length (lockedDelivery n)
+
+answer-counts : (n : ℕ) (a : Answer) (counts conjugated : Bool) (soft : Soft) → countedOf n a counts ≡ n + length (cond counts (deliveryOf (Heard soft (labelledOf conjugated a))) [])
+answer-counts n Silent true conjugated soft = omega arith
+answer-counts n Silent false conjugated soft = omega arith
+answer-counts n (Dibit d h l) true true soft = refl
+answer-counts n (Dibit d h l) true false soft = refl
+answer-counts n (Dibit d h l) false conjugated soft = omega arith
+
+waiting-counts : (s : ChainState) → Counting s (waitingOf s)
+waiting-counts s = record { symbols = omega arith; locked = none (isLocked (waitingOf s)) (s .place .locked) }
+  where
+    none : (b : Bool) (n : ℕ) → n ≡ n + length (cond b (deliveryOf Quiet) [])
+    none true n = omega arith
+    none false n = omega arith
+
+symbol-counts : (a : clock.Answer) (w : Windows) (s : ChainState) (reliable : Bool) (oldest : Soft) → Counting s (symbolOf a w s reliable oldest)
+unfolding symbolOf heardOf toldOf
+symbol-counts NoSymbol w s reliable oldest = waiting-counts s
+symbol-counts (Symbol arm from) w s reliable oldest =
+    let e = equalizer.equalizedOf (s .weights) (equalizer.rowOf (w .real) (w .imaginary)) (equalizer.rowOf (w .derivativeReal) (w .derivativeImaginary)) reliable in
+    let c = carrier.carriedOf (s .place .carrier) (e .equalized .value) reliable oldest (s .channels) (s .costs) (s .parents) .carried in
+    let conjugated = conjugates (s .place .profile) in
+    record {
+      symbols = answer-counts (s .place .symbols) (c .answer) true conjugated (c .soft);
+      locked = answer-counts (s .place .locked) (c .answer) (c .place .turn .locked) conjugated (c .soft);
+    }
+
+-- ---- values: the chain over them
+module _ (taps derivatives : List Float) where
+  level-counts : (l : Level) (s : ChainState) (oldest : Soft) → Counting s (levelOf taps derivatives l s oldest)
+  unfolding levelOf
+  level-counts Filling s oldest = waiting-counts s
+  level-counts (At z reliable) s oldest =
+      let r = clockRun taps derivatives s z in
+      let k = symbol-counts (r .stepped .answer) (r .windows) (withClock s r) reliable oldest in
+      record { symbols = k .symbols; locked = k .locked }
+
+  step-counts : (s : ChainState) (z : Complex32) (oldest : Soft) → Counting s (steppedOf taps derivatives s z oldest)
+  unfolding steppedOf
+  step-counts s z oldest =
+      let p = peak.keptOf (s .place .keeper) z (s .keeper) in
+      let k = level-counts (p .kept .level) (withKeeper s (p .kept .place) (p .ring)) oldest in
+      record { symbols = k .symbols; locked = k .locked }
+
+  record Grown (values : List Complex32) (t : Told) : Type 0 where
+    symbols : ranOf taps derivatives values t .state .place .symbols ≡ t .state .place .symbols + length (deliveries taps derivatives values (t .state) (t .records))
+    locked : ranOf taps derivatives values t .state .place .locked ≡ t .state .place .locked + length (lockedDeliveries taps derivatives values (t .state) (t .records))
+
+  grown : (values : List Complex32) (t : Told) → Grown values t
+  unfolding ranOf told deliveries lockedDeliveries
+  grown [] t = record { symbols = omega arith; locked = omega arith }
+  grown (z ∷ values) t =
+      let n = nextOf taps derivatives (t .state) (t .records) z in
+      let k = step-counts (t .state) z (recordBefore (t .records) (slotAt (t .state))) in
+      let g = grown values (told taps derivatives t z) in
+      let records = recordsAfter (n .outcome) (slotAt (t .state)) (t .records) in
+      let a = length-append (deliveryOf (n .outcome)) (deliveries taps derivatives values (n .state) records) in
+      let b = length-append (lockedDelivery n) (lockedDeliveries taps derivatives values (n .state) records) in
+      record { symbols = g .symbols ∙ more _ _ _ _ _ (k .symbols) a; locked = g .locked ∙ more _ _ _ _ _ (k .locked) b }
+
+-- ---- a block
+
+-- what an accepted block adds: its k to symbols, and to locked the dibits delivered under lock; the Snapshot shows both
+pub record Counted (r : Receiver) (table xs : List Float) (o : Outcome) : Type 0 where
+  pub delivered : length (deliveredDibits o) ≡ o .count
+  pub symbols : o .receiver .chain .symbols ≡ r .chain .symbols + o .count
+  pub locked : o .receiver .chain .locked ≡ r .chain .locked + length (lockedDeliveriesOf r table xs)
+  pub shown-symbols : o .snapshot .symbols ≡ o .receiver .chain .symbols
+  pub shown-locked : o .snapshot .«locked_symbols» ≡ o .receiver .chain .locked
+
+module _ (r : Receiver) (table xs : List Float) (ds rs : List ℕ) where
+  outcome-counts : Counted r table xs (outcomeOf r table xs ds rs)
+  unfolding afterOf wholeOf chainOf deliveriesOf lockedDeliveriesOf snapshotOf
+  outcome-counts =
+      let g = grown (bothTables .taps) (bothTables .derivatives) (valuesOf r table xs) (start (startOf r [] [] .lent .state) (r .records .slots)) in
+      record {
+        delivered = ap length (dibits-are r table xs ds rs) ∙ length-dibits (deliveriesOf r table xs);
+        symbols = g .symbols;
+        locked = g .locked;
+        shown-symbols = refl;
+        shown-locked = refl;
+      }
+
+  -- AN ACCEPTED BLOCK
+  pub block-counts : blockOf r table xs ds rs .number ≡ 0 → Counted r table xs (blockOf r table xs ds rs)
+  block-counts h = subst (Counted r table xs) (sym (accepted-is r table xs ds rs h)) outcome-counts
+
+-- ---- calls one after the other
+
+-- what a call adds; a refused one adds nothing
+record Added (r : Receiver) (c : Call) : Type 0 where
+  delivered : length (deliveredDibits (answeredOf r c)) ≡ answeredOf r c .count
+  symbols : answeredOf r c .receiver .chain .symbols ≡ r .chain .symbols + answeredOf r c .count
+  locked : answeredOf r c .receiver .chain .locked ≡ r .chain .locked + length (cond (eqb (answeredOf r c .number) 0) (lockedDeliveriesOf r (c .table) (c .samples)) [])
+
+record NothingAdded (r : Receiver) (o : Outcome) : Type 0 where
+  delivered : length (deliveredDibits o) ≡ o .count
+  symbols : o .receiver .chain .symbols ≡ r .chain .symbols + o .count
+  locked : o .receiver .chain .locked ≡ r .chain .locked + 0
+
+refused-adds : (number : ℕ) (r : Receiver) (ds rs : List ℕ) → NothingAdded r (refusedOf number r ds rs)
+refused-adds number r ds rs = record { delivered = refl; symbols = omega arith; locked = omega arith }
+
+added : (r : Receiver) (c : Call) → Added r c
+added r c = go (eqb (answeredOf r c .number) 0) refl
+  where
+    go : (b : Bool) → eqb (answeredOf r c .number) 0 ≡ b → Added r c
+    go true e =
+        let k = block-counts r (c .table) (c .samples) (c .dibits) (c .reliabilities) (eqb-true (answeredOf r c .number) 0 e) in
+        record { delivered = k .delivered; symbols = k .symbols; locked = rw e (k .locked) }
+    go false e =
+        let is = refused-is r (c .table) (c .samples) (c .dibits) (c .reliabilities) (eqb-false (answeredOf r c .number) 0 e) in
+        let k = subst (NothingAdded r) (sym is) (refused-adds (answeredOf r c .number) r (c .dibits) (c .reliabilities)) in
+        record { delivered = k .delivered; symbols = k .symbols; locked = rw e (k .locked) }
+
+-- FROM ANY STATE both count on from its values, whatever is called and refused
+pub record CountedOn (r : Receiver) (cs : List Call) : Type 0 where
+  pub delivered : length (dibitsOver r cs) ≡ countOver r cs
+  pub symbols : stateAfter r cs .chain .symbols ≡ r .chain .symbols + length (dibitsOver r cs)
+  pub locked : stateAfter r cs .chain .locked ≡ r .chain .locked + length (lockedOver r cs)
+
+pub calls-count : (r : Receiver) (cs : List Call) → CountedOn r cs
+unfolding stateAfter dibitsOver countOver lockedOver
+calls-count r [] = record { delivered = refl; symbols = omega arith; locked = omega arith }
+calls-count r (c ∷ cs) =
+    let o = answeredOf r c in
+    let k = added r c in
+    let n = calls-count (o .receiver) cs in
+    let held = cond (eqb (o .number) 0) (lockedDeliveriesOf r (c .table) (c .samples)) [] in
+    let a = length-append (deliveredDibits o) (dibitsOver (o .receiver) cs) in
+    let b = length-append held (lockedOver (o .receiver) cs) in
+    record {
+      delivered = a ∙ (λ i. k .delivered i + n .delivered i);
+      symbols = n .symbols ∙ more _ _ _ _ _ (k .symbols ∙ ap (λ (x : ℕ). r .chain .symbols + x) (sym (k .delivered))) a;
+      locked = n .locked ∙ more _ _ _ _ _ (k .locked) b;
+    }
+
+one-more : (r : Receiver) (cs : List Call) (c : Call) → stateAfter r (cs ++ (c ∷ [])) ≡ answeredOf (stateAfter r cs) c .receiver
+unfolding stateAfter
+one-more r [] c = refl
+one-more r (d ∷ cs) c = one-more (answeredOf r d .receiver) cs c
+
+-- ---- since setup
+module _ (rate offset : Float) (profile : ℤ) (table : List Float) where
+  abbrev pub fresh : Receiver
+  fresh = setupOf rate offset profile table .receiver
+
+  -- symbols is the number of dibits delivered, which is the sum of all k, and locked the number delivered under lock
+  pub record SinceSetup (cs : List Call) : Type 0 where
+    pub delivered : length (dibitsOver fresh cs) ≡ countOver fresh cs
+    pub symbols : stateAfter fresh cs .chain .symbols ≡ length (dibitsOver fresh cs)
+    pub locked : stateAfter fresh cs .chain .locked ≡ length (lockedOver fresh cs)
+
+  -- and an accepted call's Snapshot shows both, the call itself among them
+  pub record ShownSinceSetup (cs : List Call) (o : Outcome) : Type 0 where
+    pub symbols : o .snapshot .symbols ≡ length (dibitsOver fresh cs)
+    pub locked : o .snapshot .«locked_symbols» ≡ length (lockedOver fresh cs)
+
+  module _ (accepted : setupOf rate offset profile table .number ≡ 0) where
+    none-counted : (fresh .chain .symbols ≡ 0) × (fresh .chain .locked ≡ 0)
+    unfolding freshReceiver
+    none-counted =
+        let e = setup-fresh rate offset profile table accepted .receiver in
+        (ap (λ (r : Receiver). r .chain .symbols) e, ap (λ (r : Receiver). r .chain .locked) e)
+
+    -- AFTER AN ACCEPTED SETUP, whatever is called
+    pub counts-since-setup : (cs : List Call) → SinceSetup cs
+    counts-since-setup cs =
+        let k = calls-count fresh cs in
+        let z = none-counted in
+        record { delivered = k .delivered; symbols = k .symbols ∙ from-none _ _ (z .0); locked = k .locked ∙ from-none _ _ (z .1) }
+      where
+        from-none : (m n : ℕ) → m ≡ 0 → m + n ≡ n
+        from-none m n e = omega arith
+
+    pub shown-since-setup : (cs : List Call) (c : Call) → answeredOf (stateAfter fresh cs) c .number ≡ 0 → ShownSinceSetup (cs ++ (c ∷ [])) (answeredOf (stateAfter fresh cs) c)
+    shown-since-setup cs c h =
+        let k = block-counts (stateAfter fresh cs) (c .table) (c .samples) (c .dibits) (c .reliabilities) h in
+        let n = counts-since-setup (cs ++ (c ∷ [])) in
+        let e = sym (one-more fresh cs c) in
+        record {
+          symbols = k .shown-symbols ∙ ap (λ (r : Receiver). r .chain .symbols) e ∙ n .symbols;
+          locked = k .shown-locked ∙ ap (λ (r : Receiver). r .chain .locked) e ∙ n .locked;
+        }
