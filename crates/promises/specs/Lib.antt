@@ -8,3 +8,4 @@ pub mod Tables
 pub mod Taken
 pub mod Small
 pub mod Decimates
+pub mod Recut
