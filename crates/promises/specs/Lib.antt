@@ -9,3 +9,4 @@ pub mod Taken
 pub mod Small
 pub mod Decimates
 pub mod Recut
+pub mod Witness
