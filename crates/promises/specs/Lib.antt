@@ -12,3 +12,5 @@ pub mod Calls
 pub mod Counts
 pub mod CostsKept
 pub mod Unique
+pub mod Recut
+pub mod Witness
