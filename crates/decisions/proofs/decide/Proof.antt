@@ -1,0 +1,81 @@
+-- `decisions::decide` meets its contract. Assumes nothing.
+use mathlib.Core.Path.{_≡_, refl}
+use Prim.Native.Nat.{_-_, _≤_}
+use native.Mathlib.Omega.{arith}
+use lib.ListN.{length}
+use Rattle.decisions.specs.Decisions.{stateOf}
+use Rattle.decisions.specs.Rows.{Lent, rowOf}
+use Rattle.decisions.specs.Laws.{row-start, row-step, row-asks, row-end}
+use borrow.Author.Needs.{needs}
+use Rattle.decisions.proofs.decide.Statement.{statement}
+use Rattle.decisions.proofs.decide.Tie as tie
+
+abbrev Inv-loop : tie.InvT-loop
+Inv-loop symbol-real symbol-imaginary reliable count channel-real₀ channel-imaginary₀ costs₀ parents₀ view-real₀ view-imaginary₀ dibits₀ reliabilities₀ t₀ i₀ channel-real channel-imaginary costs parents view-real view-imaginary dibits reliabilities t i =
+    (i ≤ count) × (length dibits ≡ length dibits₀) × (length reliabilities ≡ length reliabilities₀)
+    × (_≡_ {A = Lent}
+    (record { state = stateOf (t .place) channel-real channel-imaginary costs parents view-real view-imaginary; records = t .records .slots; room = record { dibits = dibits; reliabilities = reliabilities; written = t .written } })
+    (rowOf symbol-real symbol-imaginary reliable i (record { state = stateOf (t₀ .place) channel-real₀ channel-imaginary₀ costs₀ parents₀ view-real₀ view-imaginary₀; records = t₀ .records .slots; room = record { dibits = dibits₀; reliabilities = reliabilities₀; written = t₀ .written } })))
+
+abbrev μ-loop : tie.MeasureT-loop
+μ-loop symbol-real symbol-imaginary reliable count channel-real₀ channel-imaginary₀ costs₀ parents₀ view-real₀ view-imaginary₀ dibits₀ reliabilities₀ t₀ i₀ channel-real channel-imaginary costs parents view-real view-imaginary dibits reliabilities t i =
+    count - i
+
+loop-holds : tie.Need-loop-holds Inv-loop μ-loop
+loop-holds c = (omega arith, refl, refl, row-start _ _ _ _)
+
+mul-t18 : tie.Need-mul-t18 Inv-loop μ-loop
+mul-t18 c = let a = c .loop-test in let b = c .before .before .before .before .pre .1 in search (needs, a, b)
+
+element-copy-out-t21 : tie.Need-element-copy-out-t21 Inv-loop μ-loop
+element-copy-out-t21 c = let a = c .loop-test in let b = c .before .before .before .before .pre .1 in search (needs, a, b)
+
+mul-t22 : tie.Need-mul-t22 Inv-loop μ-loop
+mul-t22 c = let a = c .before .loop-test in let b = c .before .before .before .before .before .pre .1 in search (needs, a, b)
+
+element-copy-out-t25 : tie.Need-element-copy-out-t25 Inv-loop μ-loop
+element-copy-out-t25 c = let a = c .before .loop-test in let b = c .before .before .before .before .before .pre .1 in search (needs, a, b)
+
+element-copy-out-link : tie.Need-element-copy-out-link Inv-loop μ-loop
+element-copy-out-link c = let a = c .before .before .loop-test in let b = c .before .before .before .before .before .before .pre .1 in search (needs, a, b)
+
+link-requires : tie.Need-link-requires Inv-loop μ-loop
+link-requires c κs = row-asks _ _ _ _ _ _ _ (c .before .before .before .before .before .before .before .before .before .before .before .before .before .before .before .pre .0) (c .before .before .before .before .before .before .before .before .before .before .before .before .loop .inv .3) (omega (arith, c .before .before .before .before .before .before .before .before .before .before .before .loop-test))
+
+add-i : tie.Need-add-i Inv-loop μ-loop
+add-i c = record { fits = omega (arith, c .before .before .before .before .before .before .before .before .before .before .before .before .before .before .before .before .loop-test, c .before .before .before .before .before .before .before .before .before .before .before .before .before .before .before .before .before .before .before .before .pre .1) }
+
+loop-less : tie.Need-loop-less Inv-loop μ-loop
+loop-less c = omega (arith, c .before .before .before .before .before .before .before .before .before .before .before .before .before .before .before .before .loop-test)
+
+loop-again : tie.Need-loop-again Inv-loop μ-loop
+loop-again c = (omega (arith, c .before .before .before .before .before .before .before .before .before .before .before .before .before .before .before .before .loop-test), omega (arith, c .before .before .before .dibits .given, c .before .before .before .before .before .before .before .before .before .before .before .before .before .before .before .before .before .loop .inv .1), omega (arith, c .before .reliabilities .given, c .before .before .before .before .before .before .before .before .before .before .before .before .before .before .before .before .before .loop .inv .2), row-step _ _ _ _ _ _ _ (c .before .before .before .before .link .ensures) (c .before .before .before .before .before .before .before .before .before .before .before .before .before .before .before .before .before .loop .inv .3))
+
+same-length : tie.Need-same-length Inv-loop μ-loop
+same-length c = search needs
+
+same-length-2 : tie.Need-same-length-2 Inv-loop μ-loop
+same-length-2 c = search needs
+
+returns : tie.Need-returns Inv-loop μ-loop
+returns c = row-end _ _ _ _ _ _ _ (c .before .before .before .before .pre .0) (c .before .loop .inv .3) (c .before .loop .inv .0) (omega (arith, c .loop-test))
+
+pub decide-spec : {M : Type 1} → statement M
+decide-spec =
+    tie.close
+    (tie.spec
+    Inv-loop
+    μ-loop
+    loop-holds
+    mul-t18
+    element-copy-out-t21
+    mul-t22
+    element-copy-out-t25
+    element-copy-out-link
+    link-requires
+    add-i
+    loop-less
+    loop-again
+    same-length
+    same-length-2
+    returns)

@@ -1,0 +1,28 @@
+-- `decisions::step::told` meets its contract. Assumes nothing.
+use mir.Facts.{toZ-ofZ}
+use mir.Val.{SFits}
+use mir.Syntax.{w32}
+use Rattle.decisions.specs.Laws.{told-is}
+use borrow.Author.Needs.{needs}
+use Rattle.decisions.proofs.step.told.Statement.{statement}
+use Rattle.decisions.proofs.step.told.Tie as tie
+
+counted-requires : tie.Need-counted-requires
+counted-requires c κs = search needs
+
+counted-requires-2 : tie.Need-counted-requires-2
+counted-requires-2 c κs = search needs
+
+is-conjugated-requires : tie.Need-is-conjugated-requires
+is-conjugated-requires c κs = search needs
+
+labelled-requires : tie.Need-labelled-requires
+labelled-requires c κs = search needs
+
+returns : tie.Need-returns
+returns c = let h : SFits w32 (c .before .before .before .before .before .before .before .before .args .p .profile) = search needs in told-is _ _ _ _ _ _ _ _ (toZ-ofZ h) (c .before .before .before .before .before .counted .ensures) (c .before .before .before .before .counted2 .ensures) (c .before .before .is-conjugated .ensures) (c .before .labelled .ensures)
+
+pub told-spec : {M : Type 1} → statement M
+told-spec =
+    tie.close
+    (tie.spec counted-requires counted-requires-2 is-conjugated-requires labelled-requires returns)

@@ -1,0 +1,31 @@
+-- The ranges of the stage's places and the lengths of its planes: what a symbol needs, and leaves. Definitions only.
+use Prim.Native.Nat.{ℕ, _+_, _*_, _≤_, _<_}
+use lib.ListN.{length}
+use Rattle.carrier.specs.Ranges as Carrier
+use Rattle.signal.specs.declared.ViewPlace.{ViewPlace}
+use Rattle.decisions.specs.Decisions.{DecisionsState}
+use Rattle.decisions.specs.Rows.{Room, Lent}
+
+pub record ViewRanged (p : ViewPlace) : Type 0 where
+  pub head : p .head < 1024
+  pub count : p .count ≤ 1024
+
+-- as many dibits as 2^52 samples can give
+abbrev pub mostSymbols : ℕ
+mostSymbols = 9007199254740992
+
+pub record Ranged (s : DecisionsState) : Type 0 where
+  pub carrier : Carrier.Ranged (s .place .carrier) (s .channels .real) (s .channels .imaginary) (s .costs) (s .parents)
+  pub view : ViewRanged (s .place .view)
+  pub locked : s .place .locked ≤ s .place .symbols
+
+-- room for n dibits more, and their reliabilities
+pub record Roomy (n : ℕ) (room : Room) : Type 0 where
+  pub dibits : room .written + n ≤ length (room .dibits)
+  pub reliabilities : 2 * room .written + 2 * n ≤ length (room .reliabilities)
+
+-- n symbols more can be taken
+pub record Asks (n : ℕ) (l : Lent) : Type 0 where
+  pub state : Ranged (l .state)
+  pub symbols : l .state .place .symbols + n ≤ mostSymbols
+  pub room : Roomy n (l .room)

@@ -1,0 +1,87 @@
+// Decisions: a row of equalized symbols, each with whether it is reliable, to dibits, through carrier
+// with detector, and view. Channels, costs, parents and the view's points are planes that the caller
+// lends; the soft records go by value.
+ghost use mathlib.Core.Path.{_≡_};
+ghost use Prim.Native.Nat.{_≤_};
+ghost use Rattle.decisions.specs.Rows.{rowOf};
+ghost use Rattle.decisions.specs.Ranges.{Asks};
+ghost use Rattle.decisions.specs.Lends.{givenRow, leavesRow};
+
+mod link;
+pub mod step;
+
+use carrier::CarrierPlace;
+use complex::Complex32;
+use link::link;
+use sequence::soft::Records;
+use signal::ViewPlace;
+
+// A parent for each of 64 states, at each of the last 32 symbols.
+pub const PARENTS: usize = 2048;
+
+// The points that the view holds.
+pub const POINTS: usize = 1024;
+
+// The places of carrier and view, the profile, the dibits delivered since setup, and those of them
+// that were delivered under lock.
+pub struct DecisionsPlace {
+    pub carrier: CarrierPlace,
+    pub view: ViewPlace,
+    pub profile: i32,
+    pub symbols: u64,
+    pub locked: u64,
+}
+
+// The place, the soft records, and how many dibits are written.
+pub struct Decided {
+    pub place: DecisionsPlace,
+    pub records: Records,
+    pub written: usize,
+}
+
+// Takes the first `count` symbols of a row. Of the dibits, and in pairs of the reliabilities, as many
+// as `first` says stand there already; those that the symbols give are written after them.
+pub fn decide(
+    first: Decided,
+    symbol_real: &[f32; 256],
+    symbol_imaginary: &[f32; 256],
+    reliable: &[bool; 256],
+    count: usize,
+    channel_real: &mut [f32; 256],
+    channel_imaginary: &mut [f32; 256],
+    costs: &mut [f32; 64],
+    parents: &mut [u8; PARENTS],
+    view_real: &mut [f32; POINTS],
+    view_imaginary: &mut [f32; POINTS],
+    dibits: &mut [u8],
+    reliabilities: &mut [u8],
+) -> Decided
+    requires { ⌜ givenRow first «channel_real» «channel_imaginary» costs parents «view_real» «view_imaginary» dibits reliabilities (Asks count) ⌝ }
+    requires { ⌜ count ≤ 256 ⌝ }
+    ensures { λ r. ⌜ leavesRow first r «channel_real» «channel_imaginary» costs parents «view_real» «view_imaginary» dibits reliabilities
+        (λ b a. (a ≡ rowOf (now («symbol_real» .entry)) (now («symbol_imaginary» .entry)) (now («reliable» .entry)) count b) × Asks 0 a) ⌝ }
+{
+    let mut t = first;
+    let mut i = 0;
+    while i < count {
+        let symbol = Complex32 {
+            real: symbol_real[i],
+            imaginary: symbol_imaginary[i],
+        };
+        t = link(
+            t,
+            symbol,
+            reliable[i],
+            channel_real,
+            channel_imaginary,
+            costs,
+            parents,
+            view_real,
+            view_imaginary,
+            dibits,
+            reliabilities,
+        );
+        i += 1;
+    }
+    t
+}
