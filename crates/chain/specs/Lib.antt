@@ -1,6 +1,8 @@
 pub mod Chain
 pub mod Rows
+pub mod Lends
 pub mod Ranges
-pub mod Laws
 pub mod Kept
 pub mod RowLaws
+pub mod Stages
+pub mod Laws

@@ -1,23 +1,26 @@
-// The chain: a row of resampled values to dibits, through peak keeper, clock, equalizer, carrier
-// with detector, and view. Rings, weights, channels and the view's points are planes that the caller
-// lends; the soft records go by value.
+// The chain: a row of resampled values to dibits, in two stages: recovery (peak keeper, clock,
+// equalizer) makes a row of symbols of it, and decisions (carrier with detector, view) takes that row.
+// Rings, weights, channels and the view's points are planes that the caller lends; the soft records go
+// by value.
 ghost use mathlib.Core.Path.{_≡_};
 ghost use Prim.Native.Nat.{_≤_};
-ghost use Rattle.chain.specs.Chain.{freshPlace, stateOf};
-ghost use Rattle.chain.specs.Rows.{Lent, valuesOf, chainOf};
+ghost use Rattle.chain.specs.Chain.{freshPlace};
+ghost use Rattle.chain.specs.Rows.{valuesOf, chainOf};
+ghost use Rattle.chain.specs.Lends.{given, leaves};
 ghost use Rattle.chain.specs.Ranges.{Asks};
 ghost use Rattle.chain.specs.RowLaws.{Left};
-
-mod row;
-pub mod step;
-
 use carrier::CarrierPlace;
 use clock::ClockPlace;
+use decisions::Decided;
+use decisions::DecisionsPlace;
+use decisions::PARENTS;
+use decisions::POINTS;
+use decisions::decide;
 use peak::KeeperPlace;
-use row::row;
+use recovery::RecoveryPlace;
+use recovery::recover;
 use sequence::soft::Records;
 use signal::ViewPlace;
-use taps::both_tables;
 
 // The places of the chain's parts, the profile, the dibits delivered since setup, and those of them
 // that were delivered under lock.
@@ -31,12 +34,14 @@ pub struct ChainPlace {
     pub locked: u64,
 }
 
+// The place, the soft records, and how many dibits are written.
 pub struct Chained {
     pub place: ChainPlace,
     pub records: Records,
     pub written: usize,
 }
 
+// A chain before its first value, for a profile.
 pub fn fresh(profile: i32) -> ChainPlace
     ensures { λ r. ⌜ r ≡ freshPlace profile ⌝ }
 {
@@ -68,40 +73,67 @@ pub fn chain(
     channel_real: &mut [f32; 256],
     channel_imaginary: &mut [f32; 256],
     costs: &mut [f32; 64],
-    parents: &mut [u8; 2048],
-    view_real: &mut [f32; 1024],
-    view_imaginary: &mut [f32; 1024],
+    parents: &mut [u8; PARENTS],
+    view_real: &mut [f32; POINTS],
+    view_imaginary: &mut [f32; POINTS],
     dibits: &mut [u8],
     reliabilities: &mut [u8],
     written: usize,
 ) -> Chained
-    requires { ⌜ Asks made (record { state = stateOf place (now «keeper_real») (now «keeper_imaginary») (now «clock_real») (now «clock_imaginary») (now «weight_real») (now «weight_imaginary») (now «channel_real») (now «channel_imaginary») (now costs) (now parents) (now «view_real») (now «view_imaginary»); records = records .slots; room = record { dibits = now dibits; reliabilities = now reliabilities; written = written } }) ⌝ }
+    requires { ⌜ given (record { place = place; records = records; written = written })
+        «keeper_real» «keeper_imaginary» «clock_real» «clock_imaginary»
+        «weight_real» «weight_imaginary» «channel_real» «channel_imaginary» costs parents
+        «view_real» «view_imaginary» dibits reliabilities
+        (Asks made) ⌝ }
     requires { ⌜ made ≤ 256 ⌝ }
-    ensures same { λ r. ⌜ _≡_ {A = Lent} (record { state = stateOf (r .place) (now («keeper_real» .exit)) (now («keeper_imaginary» .exit)) (now («clock_real» .exit)) (now («clock_imaginary» .exit)) (now («weight_real» .exit)) (now («weight_imaginary» .exit)) (now («channel_real» .exit)) (now («channel_imaginary» .exit)) (now (costs .exit)) (now (parents .exit)) (now («view_real» .exit)) (now («view_imaginary» .exit)); records = r .records .slots; room = record { dibits = now (dibits .exit); reliabilities = now (reliabilities .exit); written = r .written } }) (chainOf (valuesOf (now («row_real» .entry)) (now («row_imaginary» .entry)) made) (stateOf place (now («keeper_real» .entry)) (now («keeper_imaginary» .entry)) (now («clock_real» .entry)) (now («clock_imaginary» .entry)) (now («weight_real» .entry)) (now («weight_imaginary» .entry)) (now («channel_real» .entry)) (now («channel_imaginary» .entry)) (now (costs .entry)) (now (parents .entry)) (now («view_real» .entry)) (now («view_imaginary» .entry))) (records .slots) (record { dibits = now (dibits .entry); reliabilities = now (reliabilities .entry); written = written })) ⌝ }
-    ensures left { λ r. ⌜ Left made (stateOf place (now («keeper_real» .entry)) (now («keeper_imaginary» .entry)) (now («clock_real» .entry)) (now («clock_imaginary» .entry)) (now («weight_real» .entry)) (now («weight_imaginary» .entry)) (now («channel_real» .entry)) (now («channel_imaginary» .entry)) (now (costs .entry)) (now (parents .entry)) (now («view_real» .entry)) (now («view_imaginary» .entry))) (record { dibits = now (dibits .entry); reliabilities = now (reliabilities .entry); written = written }) (record { state = stateOf (r .place) (now («keeper_real» .exit)) (now («keeper_imaginary» .exit)) (now («clock_real» .exit)) (now («clock_imaginary» .exit)) (now («weight_real» .exit)) (now («weight_imaginary» .exit)) (now («channel_real» .exit)) (now («channel_imaginary» .exit)) (now (costs .exit)) (now (parents .exit)) (now («view_real» .exit)) (now («view_imaginary» .exit)); records = r .records .slots; room = record { dibits = now (dibits .exit); reliabilities = now (reliabilities .exit); written = r .written } }) ⌝ }
+    ensures { λ r. ⌜ leaves (record { place = place; records = records; written = written }) r
+        «keeper_real» «keeper_imaginary» «clock_real» «clock_imaginary»
+        «weight_real» «weight_imaginary» «channel_real» «channel_imaginary» costs parents
+        «view_real» «view_imaginary» dibits reliabilities
+        (λ b a. (a ≡ chainOf (valuesOf (now («row_real» .entry)) (now («row_imaginary» .entry)) made) (b .state) (b .records) (b .room))
+        × Left made (b .state) (b .room) a) ⌝ }
 {
-    let tables = both_tables();
-    let mut sizes = [0.0; 64];
-    peak::envelopes(keeper_real, keeper_imaginary, &mut sizes);
-    let first = Chained {
-        place,
-        records,
-        written,
-    };
-    row(
+    let keeper = place.keeper;
+    let clock = place.clock;
+    let first = RecoveryPlace { keeper, clock };
+    let mut symbol_real = [0.0; 256];
+    let mut symbol_imaginary = [0.0; 256];
+    let mut reliable = [false; 256];
+    let r = recover(
         first,
         row_real,
         row_imaginary,
         made,
-        &tables.taps,
-        &tables.derivatives,
-        &mut sizes,
         keeper_real,
         keeper_imaginary,
         clock_real,
         clock_imaginary,
         weight_real,
         weight_imaginary,
+        &mut symbol_real,
+        &mut symbol_imaginary,
+        &mut reliable,
+    );
+    let carrier = place.carrier;
+    let view = place.view;
+    let second = DecisionsPlace {
+        carrier,
+        view,
+        profile: place.profile,
+        symbols: place.symbols,
+        locked: place.locked,
+    };
+    let before = Decided {
+        place: second,
+        records,
+        written,
+    };
+    let d = decide(
+        before,
+        &symbol_real,
+        &symbol_imaginary,
+        &reliable,
+        r.count,
         channel_real,
         channel_imaginary,
         costs,
@@ -110,5 +142,26 @@ pub fn chain(
         view_imaginary,
         dibits,
         reliabilities,
-    )
+    );
+    let recovered = r.place;
+    let keeper_after = recovered.keeper;
+    let clock_after = recovered.clock;
+    let decided = d.place;
+    let carrier_after = decided.carrier;
+    let view_after = decided.view;
+    let records_after = d.records;
+    let place_after = ChainPlace {
+        keeper: keeper_after,
+        clock: clock_after,
+        carrier: carrier_after,
+        view: view_after,
+        profile: decided.profile,
+        symbols: decided.symbols,
+        locked: decided.locked,
+    };
+    Chained {
+        place: place_after,
+        records: records_after,
+        written: d.written,
+    }
 }

@@ -151,12 +151,12 @@ module _ (r : Receiver) (table xs : List Float) (ds rs : List ℕ) (t : Typed r)
         admitted = run-admitted conjugated r table xs ds rs (wholeOf conjugated table xs (startOf r ds rs)) ready going refl;
         typed = record {
           next = ran .kept .sound .stored;
-          keeper-real = s .keeper .real-size;
-          keeper-imaginary = s .keeper .imaginary-size;
-          channel-real = s .carrier .detector .real-size;
-          channel-imaginary = s .carrier .detector .imaginary-size;
-          costs = s .carrier .detector .costs-size;
-          parents = s .carrier .detector .parents-size;
+          keeper-real = s .recovery .keeper .real-size;
+          keeper-imaginary = s .recovery .keeper .imaginary-size;
+          channel-real = s .decisions .carrier .detector .real-size;
+          channel-imaginary = s .decisions .carrier .detector .imaginary-size;
+          costs = s .decisions .carrier .detector .costs-size;
+          parents = s .decisions .carrier .detector .parents-size;
         };
         arm = ran .kept .next .arm;
       }

@@ -12,18 +12,11 @@ use Rattle.numbers.specs.Numbers.{isFinite}
 use Rattle.complex.specs.declared.Complex32.{Complex32}
 use Rattle.taps.specs.Taps.{bothTables}
 use Rattle.sequence.specs.declared.soft.Slot.{Slot}
-use Rattle.sequence.specs.declared.soft.Soft.{Soft}
-use Rattle.filter.specs.Filter.{Windows}
-use Rattle.peak.specs.declared.Level.{Level}
-use Rattle.peak.specs.declared.Level.the-variants.{Filling, At}
-use Rattle.peak.specs.Peak as Peak
-use Rattle.clock.specs.declared.Answer.{Answer}
-use Rattle.clock.specs.declared.Answer.the-variants.{NoSymbol, Symbol}
 use Rattle.front.specs.Front as front
 use Rattle.labels.specs.Labels.{conjugates}
-use Rattle.chain.specs.Chain.{ChainState, withKeeper, withClock, clockRun, symbolOf, heardOf, toldOf, levelOf, steppedOf}
+use Rattle.chain.specs.Chain.{ChainState}
 use Rattle.chain.specs.Rows.{dibitsOf, pairOf, recordsAfter, Told, start, slotAt, nextOf, told, ranOf, chainOf}
-use Rattle.chain.specs.RowLaws.{ran-append}
+use Rattle.chain.specs.RowLaws.{ran-profile, ran-append}
 use Rattle.admission.specs.declared.state.Receiver.{Receiver}
 use Rattle.samples.specs.Samples.{countOf, realOf, imaginaryOf, finiteOf, isAbove, overloadOf}
 use Rattle.samples.specs.Run.{wholeOf}
@@ -120,31 +113,7 @@ module _ (conjugated : Bool) (table : List Float) where
       ∙ values-before ys (countOf ys) (frontFrom xs g [] .rung) (frontFrom xs g [] .values)
 
 -- ---- the chain
-symbol-profile : (a : Answer) (w : Windows) (s : ChainState) (reliable : Bool) (oldest : Soft) → symbolOf a w s reliable oldest .state .place .profile ≡ s .place .profile
-unfolding symbolOf heardOf toldOf
-symbol-profile NoSymbol w s reliable oldest = refl
-symbol-profile (Symbol arm from) w s reliable oldest = refl
-
 module _ (taps derivatives : List Float) where
-  level-profile : (l : Level) (s : ChainState) (oldest : Soft) → levelOf taps derivatives l s oldest .state .place .profile ≡ s .place .profile
-  unfolding levelOf
-  level-profile Filling s oldest = refl
-  level-profile (At z reliable) s oldest =
-      let r = clockRun taps derivatives s z in
-      symbol-profile (r .stepped .answer) (r .windows) (withClock s r) reliable oldest
-
-  step-profile : (s : ChainState) (z : Complex32) (oldest : Soft) → steppedOf taps derivatives s z oldest .state .place .profile ≡ s .place .profile
-  unfolding steppedOf
-  step-profile s z oldest =
-      let k = Peak.keptOf (s .place .keeper) z (s .keeper) in
-      level-profile (k .kept .level) (withKeeper s (k .kept .place) (k .ring)) oldest
-
-  -- the profile is kept
-  ran-profile : (values : List Complex32) (t : Told) → ranOf taps derivatives values t .state .place .profile ≡ t .state .place .profile
-  unfolding ranOf told
-  ran-profile [] t = refl
-  ran-profile (z ∷ values) t = ran-profile values (told taps derivatives t z) ∙ step-profile (t .state) z _
-
   -- what was told before changes neither state nor records
   ran-alike : (values : List Complex32) (s : ChainState) (records : List Slot) (ds rs es qs : List ℕ)
       → (ranOf taps derivatives values (record { state = s; records = records; dibits = ds; reliabilities = rs }) .state ≡ ranOf taps derivatives values (record { state = s; records = records; dibits = es; reliabilities = qs }) .state)

@@ -11,20 +11,17 @@ use borrow.Author.Tests.{eqb-true, eqb-false}
 use Rattle.laws.specs.FloatSums.{In}
 use Rattle.complex.specs.declared.Complex32.{Complex32}
 use Rattle.taps.specs.Taps.{bothTables}
-use Rattle.peak.specs.declared.Level.{Level}
-use Rattle.peak.specs.declared.Level.the-variants.{Filling, At}
-use Rattle.peak.specs.Peak as peak
-use Rattle.filter.specs.Filter.{Windows}
-use Rattle.clock.specs.declared.Answer as clock
-use Rattle.clock.specs.declared.Answer.the-variants.{NoSymbol, Symbol}
-use Rattle.equalizer.specs.Equalizer as equalizer
 use Rattle.trellis.specs.Metric.{c0, nought}
 use Rattle.trellis.specs.Costs.{c48, Good, fresh-good, good-same}
 use Rattle.trellis.specs.Bound.{good-step}
 use Rattle.sequence.specs.declared.soft.Soft.{Soft}
 use Rattle.sequence.specs.Sequence as sequence
 use Rattle.carrier.specs.Carrier as carrier
-use Rattle.chain.specs.Chain.{ChainState, heardOf, withKeeper, withClock, clockRun, symbolOf, levelOf, steppedOf}
+use Rattle.recovery.specs.declared.step.Found.{Found}
+use Rattle.recovery.specs.declared.step.Found.the-variants.{Nothing, Here}
+use Rattle.recovery.specs.Recovery as recovery
+use Rattle.decisions.specs.Decisions as decisions
+use Rattle.chain.specs.Chain.{ChainState, recoveryOf, decisionsOf, heardOf, steppedOf}
 use Rattle.chain.specs.Rows.{Told, start, told, ranOf, chainOf}
 use Rattle.admission.specs.declared.state.Receiver.{Receiver}
 use Rattle.admission.specs.State.{zero32, freshReceiver}
@@ -42,26 +39,15 @@ abbrev GoodCosts : List Float → Type 0
 GoodCosts costs = Good (λ s. getD costs s nan)
 
 -- ---- a value: the costs stay as they are, or the trellis takes a step
-symbol-keeps : (a : clock.Answer) (w : Windows) (s : ChainState) (reliable : Bool) (oldest : Soft) → GoodCosts (s .costs) → GoodCosts (symbolOf a w s reliable oldest .state .costs)
-unfolding symbolOf heardOf carrier.carriedOf sequence.detectedOf sequence.detectedWith
-symbol-keeps NoSymbol w s reliable oldest g = g
-symbol-keeps (Symbol arm from) w s reliable oldest g =
-    let e = equalizer.equalizedOf (s .weights) (equalizer.rowOf (w .real) (w .imaginary)) (equalizer.rowOf (w .derivativeReal) (w .derivativeImaginary)) reliable in
-    good-step (s .channels) (s .costs) (carrier.correctedOf (s .place .carrier .turn) (e .equalized .value)) reliable g
+heard-keeps : (f : Found) (r : recovery.RecoveryState) (d : decisions.DecisionsState) (oldest : Soft) → GoodCosts (d .costs) → GoodCosts (heardOf f r d oldest .state .costs)
+unfolding heardOf decisions.decidedOf carrier.carriedOf sequence.detectedOf sequence.detectedWith
+heard-keeps Nothing r d oldest g = g
+heard-keeps (Here z reliable) r d oldest g = good-step (d .channels) (d .costs) (carrier.correctedOf (d .place .carrier .turn) z) reliable g
 
 module _ (taps derivatives : List Float) where
-  level-keeps : (l : Level) (s : ChainState) (oldest : Soft) → GoodCosts (s .costs) → GoodCosts (levelOf taps derivatives l s oldest .state .costs)
-  unfolding levelOf
-  level-keeps Filling s oldest g = g
-  level-keeps (At z reliable) s oldest g =
-      let r = clockRun taps derivatives s z in
-      symbol-keeps (r .stepped .answer) (r .windows) (withClock s r) reliable oldest g
-
   step-keeps : (s : ChainState) (z : Complex32) (oldest : Soft) → GoodCosts (s .costs) → GoodCosts (steppedOf taps derivatives s z oldest .state .costs)
   unfolding steppedOf
-  step-keeps s z oldest g =
-      let k = peak.keptOf (s .place .keeper) z (s .keeper) in
-      level-keeps (k .kept .level) (withKeeper s (k .kept .place) (k .ring)) oldest g
+  step-keeps s z oldest g = let k = recovery.steppedOf taps derivatives (recoveryOf s) z in heard-keeps (k .found) (k .state) (decisionsOf s) oldest g
 
   values-keep : (values : List Complex32) (t : Told) → GoodCosts (t .state .costs) → GoodCosts (ranOf taps derivatives values t .state .costs)
   unfolding ranOf told

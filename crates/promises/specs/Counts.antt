@@ -12,21 +12,17 @@ use lib.Ieee.{Float}
 use borrow.Author.Tests.{eqb-true, eqb-false}
 use Rattle.complex.specs.declared.Complex32.{Complex32}
 use Rattle.taps.specs.Taps.{bothTables}
-use Rattle.peak.specs.declared.Level.{Level}
-use Rattle.peak.specs.declared.Level.the-variants.{Filling, At}
-use Rattle.peak.specs.Peak as peak
-use Rattle.filter.specs.Filter.{Windows}
-use Rattle.clock.specs.declared.Answer as clock
-use Rattle.clock.specs.declared.Answer.the-variants.{NoSymbol, Symbol}
-use Rattle.equalizer.specs.Equalizer as equalizer
 use Rattle.sequence.specs.declared.soft.Soft.{Soft}
 use Rattle.sequence.specs.declared.walk.Answer.{Answer}
 use Rattle.sequence.specs.declared.walk.Answer.the-variants.{Silent, Dibit}
 use Rattle.sequence.specs.Observed.{recordBefore}
 use Rattle.carrier.specs.Carrier as carrier
-use Rattle.chain.specs.declared.step.Outcome.the-variants.{Quiet, Heard}
 use Rattle.labels.specs.Labels.{conjugates, labelledOf, countedOf}
-use Rattle.chain.specs.Chain.{ChainState, Step, waitingOf, toldOf, heardOf, withKeeper, withClock, clockRun, symbolOf, levelOf, steppedOf}
+use Rattle.recovery.specs.declared.step.Found.{Found}
+use Rattle.recovery.specs.declared.step.Found.the-variants.{Nothing, Here}
+use Rattle.recovery.specs.Recovery as recovery
+use Rattle.decisions.specs.Decisions as decisions
+use Rattle.chain.specs.Chain.{ChainState, recoveryOf, decisionsOf, Quiet, Heard, Step, heardOf, steppedOf}
 use Rattle.chain.specs.Rows.{recordsAfter, Told, start, slotAt, nextOf, told, ranOf, chainOf}
 use Rattle.admission.specs.declared.state.Receiver.{Receiver}
 use Rattle.admission.specs.State.{freshReceiver, snapshotOf}
@@ -55,19 +51,15 @@ answer-counts n (Dibit d h l) true true soft = refl
 answer-counts n (Dibit d h l) true false soft = refl
 answer-counts n (Dibit d h l) false conjugated soft = omega arith
 
-waiting-counts : (s : ChainState) → Counting s (waitingOf s)
-waiting-counts s = record { symbols = omega arith; locked = none (isLocked (waitingOf s)) (s .place .locked) }
+heard-counts : (f : Found) (s : ChainState) (r : recovery.RecoveryState) (oldest : Soft) → Counting s (heardOf f r (decisionsOf s) oldest)
+unfolding heardOf decisions.decidedOf decisions.toldOf
+heard-counts Nothing s r oldest = record { symbols = omega arith; locked = none (isLocked (heardOf Nothing r (decisionsOf s) oldest)) (s .place .locked) }
   where
     none : (b : Bool) (n : ℕ) → n ≡ n + length (cond b (deliveryOf Quiet) [])
     none true n = omega arith
     none false n = omega arith
-
-symbol-counts : (a : clock.Answer) (w : Windows) (s : ChainState) (reliable : Bool) (oldest : Soft) → Counting s (symbolOf a w s reliable oldest)
-unfolding symbolOf heardOf toldOf
-symbol-counts NoSymbol w s reliable oldest = waiting-counts s
-symbol-counts (Symbol arm from) w s reliable oldest =
-    let e = equalizer.equalizedOf (s .weights) (equalizer.rowOf (w .real) (w .imaginary)) (equalizer.rowOf (w .derivativeReal) (w .derivativeImaginary)) reliable in
-    let c = carrier.carriedOf (s .place .carrier) (e .equalized .value) reliable oldest (s .channels) (s .costs) (s .parents) .carried in
+heard-counts (Here z reliable) s r oldest =
+    let c = carrier.carriedOf (s .place .carrier) z reliable oldest (s .channels) (s .costs) (s .parents) .carried in
     let conjugated = conjugates (s .place .profile) in
     record {
       symbols = answer-counts (s .place .symbols) (c .answer) true conjugated (c .soft);
@@ -76,20 +68,9 @@ symbol-counts (Symbol arm from) w s reliable oldest =
 
 -- ---- values: the chain over them
 module _ (taps derivatives : List Float) where
-  level-counts : (l : Level) (s : ChainState) (oldest : Soft) → Counting s (levelOf taps derivatives l s oldest)
-  unfolding levelOf
-  level-counts Filling s oldest = waiting-counts s
-  level-counts (At z reliable) s oldest =
-      let r = clockRun taps derivatives s z in
-      let k = symbol-counts (r .stepped .answer) (r .windows) (withClock s r) reliable oldest in
-      record { symbols = k .symbols; locked = k .locked }
-
   step-counts : (s : ChainState) (z : Complex32) (oldest : Soft) → Counting s (steppedOf taps derivatives s z oldest)
   unfolding steppedOf
-  step-counts s z oldest =
-      let p = peak.keptOf (s .place .keeper) z (s .keeper) in
-      let k = level-counts (p .kept .level) (withKeeper s (p .kept .place) (p .ring)) oldest in
-      record { symbols = k .symbols; locked = k .locked }
+  step-counts s z oldest = let k = recovery.steppedOf taps derivatives (recoveryOf s) z in heard-counts (k .found) s (k .state) oldest
 
   record Grown (values : List Complex32) (t : Told) : Type 0 where
     symbols : ranOf taps derivatives values t .state .place .symbols ≡ t .state .place .symbols + length (deliveries taps derivatives values (t .state) (t .records))

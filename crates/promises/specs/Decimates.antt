@@ -34,18 +34,11 @@ use Rattle.resampler.specs.Front.{hearing, heard}
 use Rattle.resampler.specs.Ranges.{Sized, sized-in}
 use Rattle.front.specs.Front as front
 use Rattle.taps.specs.Taps.{bothTables}
-use Rattle.peak.specs.declared.Level.{Level}
-use Rattle.peak.specs.declared.Level.the-variants.{Filling, At}
-use Rattle.peak.specs.Peak as peak
-use Rattle.filter.specs.Filter.{Windows}
-use Rattle.clock.specs.declared.Answer as clock
-use Rattle.clock.specs.declared.Answer.the-variants.{NoSymbol, Symbol}
-use Rattle.sequence.specs.declared.soft.Soft.{Soft}
 use Rattle.sequence.specs.declared.soft.Slot.{Slot}
-use Rattle.sequence.specs.Observed.{recordBefore}
 use Rattle.labels.specs.Labels.{conjugates}
 use Rattle.chain.specs.Chain as chain
 use Rattle.chain.specs.Rows as rows
+use Rattle.chain.specs.RowLaws.{ran-profile}
 use Rattle.admission.specs.declared.state.Receiver.{Receiver}
 use Rattle.admission.specs.State.{zero64, freshReceiver}
 use Rattle.receiver.specs.Setup.{rateRefused, offsetRefused, setupOf}
@@ -128,30 +121,6 @@ module _ (conjugated : Bool) (table xs : List Float) (h : front.Run) where
       ∙ ap (outputsOf s) (sym (mixed-more k))
 
 -- ---- a chain keeps its profile
-symbol-profile : (a : clock.Answer) (w : Windows) (t : chain.ChainState) (reliable : Bool) (oldest : Soft) → chain.symbolOf a w t reliable oldest .state .place .profile ≡ t .place .profile
-unfolding chain.symbolOf chain.heardOf chain.toldOf
-symbol-profile NoSymbol w t reliable oldest = refl
-symbol-profile (Symbol arm from) w t reliable oldest = refl
-
-module _ (taps derivatives : List Float) where
-  level-profile : (l : Level) (t : chain.ChainState) (oldest : Soft) → chain.levelOf taps derivatives l t oldest .state .place .profile ≡ t .place .profile
-  unfolding chain.levelOf
-  level-profile Filling t oldest = refl
-  level-profile (At z reliable) t oldest =
-      let r = chain.clockRun taps derivatives t z in
-      symbol-profile (r .stepped .answer) (r .windows) (chain.withClock t r) reliable oldest
-
-  told-profile : (t : rows.Told) (z : Complex32) → rows.told taps derivatives t z .state .place .profile ≡ t .state .place .profile
-  unfolding rows.told chain.steppedOf
-  told-profile t z =
-      let k = peak.keptOf (t .state .place .keeper) z (t .state .keeper) in
-      level-profile (k .kept .level) (chain.withKeeper (t .state) (k .kept .place) (k .ring)) (recordBefore (t .records) (rows.slotAt (t .state)))
-
-  ran-profile : (values : List Complex32) (t : rows.Told) → rows.ranOf taps derivatives values t .state .place .profile ≡ t .state .place .profile
-  unfolding rows.ranOf
-  ran-profile [] t = refl
-  ran-profile (z ∷ values) t = ran-profile values (rows.told taps derivatives t z) ∙ told-profile t z
-
 chain-profile : (values : List Complex32) (t : chain.ChainState) (records : List Slot) (room : rows.Room) → rows.chainOf values t records room .state .place .profile ≡ t .place .profile
 unfolding rows.chainOf
 chain-profile values t records room = ran-profile (bothTables .taps) (bothTables .derivatives) values (rows.start t records)

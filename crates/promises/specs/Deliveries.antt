@@ -13,10 +13,8 @@ use Rattle.complex.specs.declared.Complex32.{Complex32}
 use Rattle.taps.specs.Taps.{bothTables}
 use Rattle.sequence.specs.declared.soft.Slot.{Slot}
 use Rattle.sequence.specs.declared.walk.Answer.the-variants.{Silent, Dibit}
-use Rattle.chain.specs.declared.step.Outcome.{Outcome as Result}
-use Rattle.chain.specs.declared.step.Outcome.the-variants.{Quiet, Heard}
 use Rattle.labels.specs.Labels.{conjugates}
-use Rattle.chain.specs.Chain.{ChainState}
+use Rattle.chain.specs.Chain.{ChainState, Outcome as Result, Quiet, Heard}
 use Rattle.chain.specs.Rows.{dibitsOf, pairOf, recordsAfter, Told, start, slotAt, nextOf, told, ranOf, Room, laidIn, chainOf}
 use Rattle.chain.specs.RowLaws.{one-most}
 use Rattle.admission.specs.declared.state.Receiver.{Receiver}

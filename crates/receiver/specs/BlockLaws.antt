@@ -75,14 +75,15 @@ run-asks r table xs ds rs k kr ki hr hi co pa =
       index-in = omega arith;
       asks = record {
         state = record {
-          keeper = record { head = b .head; fill = b .fill; real-size = kr; imaginary-size = ki };
-          clock = b .clock;
-          carrier = record {
-            alternation = b .alternation;
-            detector = record { write = b .write; filled = b .filled; earlier = b .earlier; table = f .table; real-size = hr; imaginary-size = hi; costs-size = co; parents-size = pa };
+          recovery = record { keeper = record { head = b .head; fill = b .fill; real-size = kr; imaginary-size = ki }; clock = b .clock };
+          decisions = record {
+            carrier = record {
+              alternation = b .alternation;
+              detector = record { write = b .write; filled = b .filled; earlier = b .earlier; table = f .table; real-size = hr; imaginary-size = hi; costs-size = co; parents-size = pa };
+            };
+            view = record { head = b .view-head; count = b .view-count };
+            locked = f .locked-in;
           };
-          view = record { head = b .view-head; count = b .view-count };
-          locked = f .locked-in;
         };
         symbols = omega arith;
         room = record { dibits = omega arith; reliabilities = omega arith };
@@ -104,26 +105,27 @@ run-admitted conjugated r table xs ds rs w k g e =
     let a = f .index-in in
     let b = f .symbols-in in
     let t = k .total-in in
-    let u = l .ranged in
+    let u = l .ranged .recovery in
+    let v = l .ranged .decisions in
     let y = g .next .ready in
     fits-to (r .total + countOf xs) (w .rung .place) (w .lent .state .place) (w .lent .state .parents) (record {
       total-in = k .total-in;
       index-in = omega arith;
-      locked-in = u .locked;
+      locked-in = v .locked;
       symbols-in = omega arith;
       front-fits = record { some = omega arith; slow = y .slow; early = y .early; turns = y .turns; ring = y .ring };
       chain-fits = record {
         head = u .keeper .head;
         fill = u .keeper .fill;
-        view-head = u .view .head;
-        view-count = u .view .count;
+        view-head = v .view .head;
+        view-count = v .view .count;
         clock = u .clock;
-        alternation = u .carrier .alternation;
-        write = u .carrier .detector .write;
-        filled = u .carrier .detector .filled;
-        earlier = u .carrier .detector .earlier;
+        alternation = v .carrier .alternation;
+        write = v .carrier .detector .write;
+        filled = v .carrier .detector .filled;
+        earlier = v .carrier .detector .earlier;
       };
-      table = u .carrier .detector .table;
+      table = v .carrier .detector .table;
     })
 
 -- at most two dibits a sample

@@ -5,8 +5,10 @@ use mathlib.Core.Bool.{Bool}
 use mathlib.Core.List.{List, []}
 use lib.ListN.{length}
 use lib.Ieee.{Float}
+use denote.Ref.{now}
 use Rattle.front.specs.Front as front
 use Rattle.front.specs.Ready as fit
+use Rattle.recovery.specs.Lends.{Now, Lends}
 use Rattle.chain.specs.Chain.{stateOf}
 use Rattle.chain.specs.Rows.{Lent, chainOf}
 use Rattle.chain.specs.Ranges.{Asks}
@@ -25,6 +27,46 @@ wholeNow t rr ri kr ki tr ti wr wi hr hi costs parents vr vi ds rs = record {
   lent = record { state = stateOf (t .chain) kr ki tr ti wr wi hr hi costs parents vr vi; records = t .records .slots; room = record { dibits = ds; reliabilities = rs; written = t .written } };
   from = t .from;
 }
+
+-- the same by the names of the run's parameters, as it is given and as it is left: each is a type that computes to the clause written out
+module _ (t : Running) (ringReal ringImaginary : Now Float) (keeperReal keeperImaginary clockReal clockImaginary weightReal weightImaginary : Now Float)
+    (channelReal channelImaginary costs : Now Float) (parents : Now ℕ) (viewReal viewImaginary : Now Float) (dibits reliabilities : Now ℕ) where
+  abbrev pub given : (Whole → Type 0) → Type 0
+  given P =
+      P
+      (wholeNow t
+      (now ringReal) (now ringImaginary)
+      (now keeperReal) (now keeperImaginary)
+      (now clockReal) (now clockImaginary)
+      (now weightReal) (now weightImaginary)
+      (now channelReal) (now channelImaginary)
+      (now costs) (now parents)
+      (now viewReal) (now viewImaginary)
+      (now dibits) (now reliabilities))
+
+module _ (t r : Running) (ringReal ringImaginary : Lends Float) (keeperReal keeperImaginary clockReal clockImaginary weightReal weightImaginary : Lends Float)
+    (channelReal channelImaginary costs : Lends Float) (parents : Lends ℕ) (viewReal viewImaginary : Lends Float) (dibits reliabilities : Lends ℕ) where
+  abbrev pub leaves : (Whole → Whole → Type 0) → Type 0
+  leaves Q =
+      Q
+      (wholeNow t
+      (now (ringReal .entry)) (now (ringImaginary .entry))
+      (now (keeperReal .entry)) (now (keeperImaginary .entry))
+      (now (clockReal .entry)) (now (clockImaginary .entry))
+      (now (weightReal .entry)) (now (weightImaginary .entry))
+      (now (channelReal .entry)) (now (channelImaginary .entry))
+      (now (costs .entry)) (now (parents .entry))
+      (now (viewReal .entry)) (now (viewImaginary .entry))
+      (now (dibits .entry)) (now (reliabilities .entry)))
+      (wholeNow r
+      (now (ringReal .exit)) (now (ringImaginary .exit))
+      (now (keeperReal .exit)) (now (keeperImaginary .exit))
+      (now (clockReal .exit)) (now (clockImaginary .exit))
+      (now (weightReal .exit)) (now (weightImaginary .exit))
+      (now (channelReal .exit)) (now (channelImaginary .exit))
+      (now (costs .exit)) (now (parents .exit))
+      (now (viewReal .exit)) (now (viewImaginary .exit))
+      (now (dibits .exit)) (now (reliabilities .exit)))
 
 module _ (conjugated : Bool) (table xs : List Float) (w : Whole) where
   -- the front after n samples, and its values

@@ -1,10 +1,15 @@
 // The run over a block's samples: a row of values from the front, the row through the chain, until the
 // samples are used up.
 ghost use mathlib.Core.Path.{_≡_};
-ghost use Rattle.samples.specs.Run.{wholeNow, wholeOf, Going, ReadyRun};
+ghost use Rattle.samples.specs.Run.{given, leaves, wholeOf, Going, ReadyRun};
 use chain::ChainPlace;
+use decisions::PARENTS;
+use decisions::POINTS;
 use front::FrontPlace;
 use sequence::soft::Records;
+
+// The places of the resampler's ring.
+const PLACES: usize = 592;
 
 // What moves from row to row: the places, the sample that is next, and how many dibits are written.
 pub struct Running {
@@ -15,13 +20,14 @@ pub struct Running {
     pub written: usize,
 }
 
+// Runs over all samples of a block from the first one on.
 pub fn run(
     first: Running,
     conjugated: bool,
     samples: &[f32],
     table: &[f32],
-    ring_real: &mut [f32; 592],
-    ring_imaginary: &mut [f32; 592],
+    ring_real: &mut [f32; PLACES],
+    ring_imaginary: &mut [f32; PLACES],
     keeper_real: &mut [f32; 64],
     keeper_imaginary: &mut [f32; 64],
     clock_real: &mut [f32; 256],
@@ -31,15 +37,23 @@ pub fn run(
     channel_real: &mut [f32; 256],
     channel_imaginary: &mut [f32; 256],
     costs: &mut [f32; 64],
-    parents: &mut [u8; 2048],
-    view_real: &mut [f32; 1024],
-    view_imaginary: &mut [f32; 1024],
+    parents: &mut [u8; PARENTS],
+    view_real: &mut [f32; POINTS],
+    view_imaginary: &mut [f32; POINTS],
     dibits: &mut [u8],
     reliabilities: &mut [u8],
 ) -> Running
-    requires { ⌜ ReadyRun (now table) (now samples) (wholeNow first (now «ring_real») (now «ring_imaginary») (now «keeper_real») (now «keeper_imaginary») (now «clock_real») (now «clock_imaginary») (now «weight_real») (now «weight_imaginary») (now «channel_real») (now «channel_imaginary») (now costs) (now parents) (now «view_real») (now «view_imaginary») (now dibits) (now reliabilities)) ⌝ }
-    ensures same { λ r. ⌜ wholeNow r (now («ring_real» .exit)) (now («ring_imaginary» .exit)) (now («keeper_real» .exit)) (now («keeper_imaginary» .exit)) (now («clock_real» .exit)) (now («clock_imaginary» .exit)) (now («weight_real» .exit)) (now («weight_imaginary» .exit)) (now («channel_real» .exit)) (now («channel_imaginary» .exit)) (now (costs .exit)) (now (parents .exit)) (now («view_real» .exit)) (now («view_imaginary» .exit)) (now (dibits .exit)) (now (reliabilities .exit)) ≡ wholeOf conjugated (now (table .entry)) (now (samples .entry)) (wholeNow first (now («ring_real» .entry)) (now («ring_imaginary» .entry)) (now («keeper_real» .entry)) (now («keeper_imaginary» .entry)) (now («clock_real» .entry)) (now («clock_imaginary» .entry)) (now («weight_real» .entry)) (now («weight_imaginary» .entry)) (now («channel_real» .entry)) (now («channel_imaginary» .entry)) (now (costs .entry)) (now (parents .entry)) (now («view_real» .entry)) (now («view_imaginary» .entry)) (now (dibits .entry)) (now (reliabilities .entry))) ⌝ }
-    ensures kept { λ r. ⌜ Going conjugated (now (table .entry)) (now (samples .entry)) (wholeNow first (now («ring_real» .entry)) (now («ring_imaginary» .entry)) (now («keeper_real» .entry)) (now («keeper_imaginary» .entry)) (now («clock_real» .entry)) (now («clock_imaginary» .entry)) (now («weight_real» .entry)) (now («weight_imaginary» .entry)) (now («channel_real» .entry)) (now («channel_imaginary» .entry)) (now (costs .entry)) (now (parents .entry)) (now («view_real» .entry)) (now («view_imaginary» .entry)) (now (dibits .entry)) (now (reliabilities .entry))) (wholeNow r (now («ring_real» .exit)) (now («ring_imaginary» .exit)) (now («keeper_real» .exit)) (now («keeper_imaginary» .exit)) (now («clock_real» .exit)) (now («clock_imaginary» .exit)) (now («weight_real» .exit)) (now («weight_imaginary» .exit)) (now («channel_real» .exit)) (now («channel_imaginary» .exit)) (now (costs .exit)) (now (parents .exit)) (now («view_real» .exit)) (now («view_imaginary» .exit)) (now (dibits .exit)) (now (reliabilities .exit))) ⌝ }
+    requires { ⌜ given first
+        «ring_real» «ring_imaginary» «keeper_real» «keeper_imaginary» «clock_real» «clock_imaginary»
+        «weight_real» «weight_imaginary» «channel_real» «channel_imaginary» costs parents
+        «view_real» «view_imaginary» dibits reliabilities
+        (ReadyRun (now table) (now samples)) ⌝ }
+    ensures { λ r. ⌜ leaves first r
+        «ring_real» «ring_imaginary» «keeper_real» «keeper_imaginary» «clock_real» «clock_imaginary»
+        «weight_real» «weight_imaginary» «channel_real» «channel_imaginary» costs parents
+        «view_real» «view_imaginary» dibits reliabilities
+        (λ b a. (a ≡ wholeOf conjugated (now (table .entry)) (now (samples .entry)) b)
+        × Going conjugated (now (table .entry)) (now (samples .entry)) b a) ⌝ }
 {
     let n = samples.len() / 2;
     let mut row_real = [0.0f32; 256];
