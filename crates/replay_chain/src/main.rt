@@ -3,9 +3,9 @@
 // that the oracle prints.
 ghost use Prim.Native.Nat.{_+_, _<_, _≤_};
 ghost use lib.ListN.{length};
-ghost use Rattle.chain.specs.Chain.{stateOf};
 ghost use Rattle.chain.specs.Ranges.{mostSymbols, Ranged};
 ghost use Rattle.replay_chain.specs.Sound.{Sound};
+ghost use Rattle.replay_chain.specs.Lends.{given, left};
 use carrier::CarrierPlace;
 use carrier::Loop;
 use chain::ChainPlace;
@@ -212,11 +212,19 @@ fn row(
     view_real: &mut [f32; 1024],
     view_imaginary: &mut [f32; 1024],
 ) -> Chained
-    requires { ⌜ Ranged (stateOf place (now «keeper_real») (now «keeper_imaginary») (now «clock_real») (now «clock_imaginary») (now «weight_real») (now «weight_imaginary») (now «channel_real») (now «channel_imaginary») (now costs) (now parents) (now «view_real») (now «view_imaginary»)) ⌝ }
+    requires { ⌜ given place
+        «keeper_real» «keeper_imaginary» «clock_real» «clock_imaginary»
+        «weight_real» «weight_imaginary» «channel_real» «channel_imaginary» costs parents
+        «view_real» «view_imaginary»
+        Ranged ⌝ }
     requires { ⌜ place .symbols + 256 ≤ mostSymbols ⌝ }
     requires { ⌜ made ≤ 256 ⌝ }
     requires { ⌜ before ≤ 8 ⌝ }
-    ensures { λ r. ⌜ Ranged (stateOf (r .place) (now («keeper_real» .exit)) (now («keeper_imaginary» .exit)) (now («clock_real» .exit)) (now («clock_imaginary» .exit)) (now («weight_real» .exit)) (now («weight_imaginary» .exit)) (now («channel_real» .exit)) (now («channel_imaginary» .exit)) (now (costs .exit)) (now (parents .exit)) (now («view_real» .exit)) (now («view_imaginary» .exit))) ⌝ }
+    ensures { λ r. ⌜ left (r .place)
+        «keeper_real» «keeper_imaginary» «clock_real» «clock_imaginary»
+        «weight_real» «weight_imaginary» «channel_real» «channel_imaginary» costs parents
+        «view_real» «view_imaginary»
+        Ranged ⌝ }
 {
     let mut dibits = [170u8; 264];
     let mut reliabilities = [170u8; 528];
@@ -280,7 +288,11 @@ fn run(
     view_real: &mut [f32; 1024],
     view_imaginary: &mut [f32; 1024],
 )
-    requires { ⌜ Ranged (stateOf place (now «keeper_real») (now «keeper_imaginary») (now «clock_real») (now «clock_imaginary») (now «weight_real») (now «weight_imaginary») (now «channel_real») (now «channel_imaginary») (now costs) (now parents) (now «view_real») (now «view_imaginary»)) ⌝ }
+    requires { ⌜ given place
+        «keeper_real» «keeper_imaginary» «clock_real» «clock_imaginary»
+        «weight_real» «weight_imaginary» «channel_real» «channel_imaginary» costs parents
+        «view_real» «view_imaginary»
+        Ranged ⌝ }
 {
     let mut row_real: [f32; 256] = [0.0; 256];
     let mut row_imaginary: [f32; 256] = [0.0; 256];
