@@ -5,7 +5,7 @@ use mathlib.Core.List.{List}
 use lib.IntN.{ℤ, pos}
 use lib.ListN.{replicate}
 use lib.Ieee.{Float, binary32, binary64, ofBits, mul, div}
-use Rattle.signal.specs.declared.Observation.the-variants.{Absent}
+use Rattle.complex.specs.declared.Observation.the-variants.{Absent}
 use Rattle.signal.specs.Signal as signal
 use Rattle.peak.specs.Peak as peak
 use Rattle.decimator.specs.Decimator as decimator

@@ -5,6 +5,7 @@ use carrier::CarrierPlace;
 use carrier::Loop;
 use chain::ChainPlace;
 use clock::ClockPlace;
+use complex::Observation;
 use front::FrontPlace;
 use oscillator::Oscillator;
 use peak::KeeperPlace;
@@ -14,7 +15,6 @@ use sequence::soft::Slot;
 use sequence::soft::Soft;
 use sequence::step::DetectorPlace;
 use sequence::walk::Previous;
-use signal::Observation;
 use signal::ViewPlace;
 
 // Total is how many samples were taken. The planes: the resampler's ring, the peak keeper's, the

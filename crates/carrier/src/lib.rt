@@ -6,6 +6,7 @@ ghost use Rattle.carrier.specs.Carrier.{freshPlace, rotationOf, turnedBa
 ghost use Rattle.carrier.specs.Ranges.{Ranged};
 use complex::Complex32;
 use complex::Complex64;
+use complex::Observation;
 use numbers::compare::clamp;
 use numbers::compare::clamp32;
 use numbers::narrow::widen;
@@ -16,7 +17,6 @@ use routines::circle::sine_cosine;
 use sequence::soft::Soft;
 use sequence::step::DetectorPlace;
 use sequence::walk::Answer;
-use signal::Observation;
 
 const PI: f64 = 3.141592653589793;
 

@@ -16,6 +16,12 @@ pub struct Complex64 {
     pub imaginary: f64,
 }
 
+// A corrected symbol, or none where the signal was not reliable.
+pub enum Observation {
+    Absent,
+    Present(Complex32),
+}
+
 pub fn zero() -> Complex32
     ensures { λ r. ⌜ r ≡ zeroPair ⌝ }
 {

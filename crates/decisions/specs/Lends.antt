@@ -1,20 +1,12 @@
 -- What the functions of the stage are lent, by the names of their parameters: each is a type that computes to the clause written out. Definitions only.
 use Prim.Native.Nat.{ℕ}
-use mathlib.Core.List.{List}
 use lib.Ieee.{Float}
-use denote.Ref.{RefT, now}
-use denote.Triple.Both.{Both}
+use denote.Ref.{now}
+use Rattle.laws.specs.Lent.{Now, Lends}
 use Rattle.decisions.specs.declared.DecisionsPlace.{DecisionsPlace}
 use Rattle.decisions.specs.declared.Decided.{Decided}
 use Rattle.decisions.specs.Decisions.{DecisionsState, stateOf}
 use Rattle.decisions.specs.Rows.{Room, Lent}
-
--- a name in a `requires` is a reference, and in an `ensures` the reference at entry and at exit
-abbrev pub Now : Type 0 → Type 0
-Now A = RefT (List A)
-
-abbrev pub Lends : Type 0 → Type 0
-Lends A = Both (RefT (List A)) (RefT (List A))
 
 -- ---- the room for the answers
 abbrev pub givenRoom : ℕ → Now ℕ → Now ℕ → (Room → Type 0) → Type 0

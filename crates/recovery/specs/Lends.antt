@@ -1,21 +1,13 @@
 -- What the functions of the stage are lent, by the names of their parameters: each is a type that computes to the clause written out. Definitions only.
 use Prim.Native.Nat.{ℕ}
 use mathlib.Core.Bool.{Bool}
-use mathlib.Core.List.{List}
 use lib.Ieee.{Float}
-use denote.Ref.{RefT, now}
-use denote.Triple.Both.{Both}
+use denote.Ref.{now}
+use Rattle.laws.specs.Lent.{Now, Lends}
 use Rattle.recovery.specs.declared.RecoveryPlace.{RecoveryPlace}
 use Rattle.recovery.specs.declared.Recovered.{Recovered}
 use Rattle.recovery.specs.Recovery.{RecoveryState, stateOf}
 use Rattle.recovery.specs.Rows.{Symbols, Lent}
-
--- a name in a `requires` is a reference, and in an `ensures` the reference at entry and at exit
-abbrev pub Now : Type 0 → Type 0
-Now A = RefT (List A)
-
-abbrev pub Lends : Type 0 → Type 0
-Lends A = Both (RefT (List A)) (RefT (List A))
 
 -- ---- a value: the stage as it is given, and as it is left
 module _ (p : RecoveryPlace) (keeperReal keeperImaginary clockReal clockImaginary weightReal weightImaginary : Now Float) where

@@ -2,7 +2,7 @@
 use Prim.Native.Nat.{ℕ}
 use lib.Ieee.{Float}
 use denote.Ref.{now}
-use Rattle.recovery.specs.Lends.{Now, Lends}
+use Rattle.laws.specs.Lent.{Now, Lends}
 use Rattle.chain.specs.declared.ChainPlace.{ChainPlace}
 use Rattle.chain.specs.Chain.{ChainState, stateOf}
 

@@ -5,6 +5,7 @@ ghost use Prim.Native.Nat.{_<_, _≤_};
 ghost use lib.ListN.{length};
 ghost use Rattle.sequence.specs.Walk.{Table, Earlier};
 use complex::Complex32;
+use complex::Observation;
 use replay::mixed;
 use replay::mixed_flag;
 use replay::mixed_float32;
@@ -17,7 +18,6 @@ use sequence::step::Detected;
 use sequence::step::DetectorPlace;
 use sequence::walk::Answer;
 use sequence::walk::Previous;
-use signal::Observation;
 
 // The kinds of floats and of costs, place, fill and previous symbol (0, or 1 and the symbol).
 pub struct Start {

@@ -1,6 +1,7 @@
 // Plays a list of pushes and reads from standard input through the constellation view, and writes a
 // line for each: the digest of what it answered, the floats lent to a read included.
 use complex::Complex32;
+use complex::Observation;
 use replay::any;
 use replay::mark;
 use replay::mixed;
@@ -9,7 +10,6 @@ use replay::mixed_float32;
 use replay::mixed_plane;
 use replay::print_line;
 use replay::word;
-use signal::Observation;
 use signal::Reading;
 use signal::ViewPlace;
 

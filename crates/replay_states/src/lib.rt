@@ -8,6 +8,7 @@ use carrier::Loop;
 use chain::ChainPlace;
 use clock::ClockPlace;
 use complex::Complex32;
+use complex::Observation;
 use decimator::Combs;
 use decimator::Decimator;
 use decimator::Delays;
@@ -26,7 +27,6 @@ use sequence::soft::Slot;
 use sequence::soft::Soft;
 use sequence::step::DetectorPlace;
 use sequence::walk::Previous;
-use signal::Observation;
 use signal::ViewPlace;
 
 // ---- words to numbers

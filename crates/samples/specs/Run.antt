@@ -8,7 +8,7 @@ use lib.Ieee.{Float}
 use denote.Ref.{now}
 use Rattle.front.specs.Front as front
 use Rattle.front.specs.Ready as fit
-use Rattle.recovery.specs.Lends.{Now, Lends}
+use Rattle.laws.specs.Lent.{Now, Lends}
 use Rattle.chain.specs.Chain.{stateOf}
 use Rattle.chain.specs.Rows.{Lent, chainOf}
 use Rattle.chain.specs.Ranges.{Asks}

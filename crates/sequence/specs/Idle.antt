@@ -14,8 +14,8 @@ use Rattle.laws.specs.Places.{upto, upto-at}
 use Rattle.laws.specs.Ring.{lt-or-ge}
 use Rattle.numbers.specs.Numbers.{signOf}
 use Rattle.complex.specs.declared.Complex32.{Complex32}
-use Rattle.signal.specs.declared.Observation.{Observation}
-use Rattle.signal.specs.declared.Observation.the-variants.{Absent}
+use Rattle.complex.specs.declared.Observation.{Observation}
+use Rattle.complex.specs.declared.Observation.the-variants.{Absent}
 use Rattle.tracker.specs.Tracker.{Planes, predictionOf}
 use Rattle.trellis.specs.declared.choice.Branch.{Branch}
 use Rattle.trellis.specs.declared.best.Least.{Least}

@@ -9,7 +9,7 @@ use lib.Ieee.Bits.{is-true, is-false}
 use lib.Ieee.{Float}
 use Rattle.complex.specs.declared.Complex32.{Complex32}
 use Rattle.complex.specs.Complex.{conjugateProductOf, powerOf, bothFinite}
-use Rattle.signal.specs.declared.Observation.the-variants.{Absent, Present}
+use Rattle.complex.specs.declared.Observation.the-variants.{Absent, Present}
 use Rattle.tracker.specs.declared.channel.Taps.{Taps}
 use Rattle.sequence.specs.declared.combine.Seen.{Seen}
 use Rattle.sequence.specs.declared.soft.Soft.{Soft}

@@ -8,8 +8,8 @@ use Rattle.numbers.specs.Numbers.{isFinite, absOf, minOf, maxOf, clampOf}
 use Rattle.routines.specs.Hypotenuse.{hypotenuseOf}
 use Rattle.complex.specs.declared.Complex32.{Complex32}
 use Rattle.complex.specs.Complex.{differenceOf, productOf, conjugateProductOf, powerOf, bothFinite}
-use Rattle.signal.specs.declared.Observation.{Observation}
-use Rattle.signal.specs.declared.Observation.the-variants.{Absent, Present}
+use Rattle.complex.specs.declared.Observation.{Observation}
+use Rattle.complex.specs.declared.Observation.the-variants.{Absent, Present}
 use Rattle.tracker.specs.declared.channel.Taps.{Taps}
 use Rattle.tracker.specs.Tracker.{level, symbolOf}
 use Rattle.sequence.specs.declared.combine.Seen.{Seen}

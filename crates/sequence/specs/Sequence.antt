@@ -9,7 +9,7 @@ use Rattle.laws.specs.Places.{upto}
 use Rattle.routines.specs.Angle.{arctangentOf}
 use Rattle.complex.specs.declared.Complex32.{Complex32}
 use Rattle.complex.specs.Complex.{differenceOf, conjugateProductOf, powerOf}
-use Rattle.signal.specs.declared.Observation.the-variants.{Absent}
+use Rattle.complex.specs.declared.Observation.the-variants.{Absent}
 use Rattle.tracker.specs.Tracker.{Planes, pointAt, tapsOf, followedOf}
 use Rattle.trellis.specs.Trellis.{Advance, advancedOf}
 use Rattle.sequence.specs.declared.combine.Seen.{Seen}

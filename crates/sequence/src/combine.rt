@@ -3,13 +3,13 @@ ghost use mathlib.Core.Path.{_≡_};
 ghost use Prim.Native.Nat.{_<_};
 ghost use Rattle.sequence.specs.Observed.{cancelledOf, isUsable, dividedOf, weightedOf, seenOf};
 use complex::Complex32;
+use complex::Observation;
 use complex::is_finite;
 use complex::multiplied;
 use complex::multiplied_conjugate;
 use complex::power;
 use complex::subtracted;
 use numbers::compare::is_finite32;
-use signal::Observation;
 use tracker::channel::Taps;
 use tracker::symbols::symbol;
 

@@ -4,6 +4,7 @@ ghost use mathlib.Core.Bool.{Bool·beq};
 ghost use Prim.Native.Nat.{_<_};
 ghost use Rattle.sequence.specs.Observed.{noiseAfter, sizeOf, turnedOf, scaleOf, recordedOf, recordOf, byteOf, agreedOf, slotOf, recordBefore};
 use complex::Complex32;
+use complex::Observation;
 use complex::multiplied_conjugate;
 use numbers::compare::abs32;
 use numbers::compare::clamp32;
@@ -12,7 +13,6 @@ use numbers::compare::max32;
 use numbers::compare::min32;
 use numbers::whole::to_u8;
 use routines::hypotenuse::hypotenuse;
-use signal::Observation;
 
 // No record, or two sign bits and two reliabilities, the dibit's higher bit first.
 pub enum Soft {

@@ -13,7 +13,7 @@ use Rattle.laws.specs.Places.{upto, upto-at, upto-is, length-upto, le-or}
 use Rattle.laws.specs.Ring.{Spun, Sound, spins, last, last-pushed, lt-or-ge}
 use Rattle.numbers.specs.Root.{sqrtOf}
 use Rattle.complex.specs.declared.Complex32.{Complex32}
-use Rattle.signal.specs.declared.Observation.{Observation}
+use Rattle.complex.specs.declared.Observation.{Observation}
 use Rattle.signal.specs.Signal.{View, outside, pointAt, pairedOf, pushedOf, ringOf, lastOf, partsOf, writtenOf, isUsable, meanPower, nothing, shownAs, shownOf, readOf}
 
 -- a view whose planes and place are those of a ring of 1,024

@@ -12,8 +12,8 @@ use Rattle.numbers.specs.Numbers.{absOf, isFinite, convert}
 use Rattle.numbers.specs.Root.{sqrtOf}
 use Rattle.complex.specs.declared.Complex32.{Complex32}
 use Rattle.complex.specs.Complex.{zeroPair, conjugateProductOf}
-use Rattle.signal.specs.declared.Observation.{Observation}
-use Rattle.signal.specs.declared.Observation.the-variants.{Absent, Present}
+use Rattle.complex.specs.declared.Observation.{Observation}
+use Rattle.complex.specs.declared.Observation.the-variants.{Absent, Present}
 use Rattle.signal.specs.declared.ViewPlace.{ViewPlace}
 use Rattle.signal.specs.declared.Reading.{Reading}
 

@@ -12,6 +12,7 @@ mod plain;
 mod rows;
 
 use complex::Complex32;
+use complex::Observation;
 use numbers::compare::abs;
 use numbers::compare::is_finite;
 use numbers::narrow::narrow;
@@ -27,12 +28,6 @@ use rows::write_run;
 const ROTATION: f32 = 0.70710677;
 
 const IDEAL: f64 = 0.7071067811865476;
-
-// A corrected symbol, or none where the signal was not reliable.
-pub enum Observation {
-    Absent,
-    Present(Complex32),
-}
 
 // What the view keeps beside its ring: the last observation, where the next point goes, and how
 // many points are held, at most 1,024.
