@@ -58,6 +58,7 @@ pub fn fresh(profile: i32) -> ChainPlace
 
 // Takes the first `made` values of a row. Of the dibits, and in pairs of the reliabilities, `written`
 // stand there already; those that the values give are written after them, and the rest is untouched.
+// A row without values, of which high rates make many, ends the call at once.
 pub fn chain(
     place: ChainPlace,
     records: Records,
@@ -93,6 +94,13 @@ pub fn chain(
         (λ b a. (a ≡ chainOf (valuesOf (now («row_real» .entry)) (now («row_imaginary» .entry)) made) (b .state) (b .records) (b .room))
         × Left made (b .state) (b .room) a) ⌝ }
 {
+    if made == 0 {
+        return Chained {
+            place,
+            records,
+            written,
+        };
+    }
     let keeper = place.keeper;
     let clock = place.clock;
     let first = RecoveryPlace { keeper, clock };

@@ -14,15 +14,10 @@ use Rattle.front.specs.Front as front
 use Rattle.front.specs.Ready as fit
 use Rattle.front.specs.Draws.{next-none, next-on}
 use Rattle.front.specs.Rows.{Filled, filled}
-use Rattle.chain.specs.Rows.{Lent, start, ranOf, valuesOf, chainOf}
+use Rattle.chain.specs.Rows.{Lent, valuesOf, chainOf}
 use Rattle.chain.specs.Ranges.{Asks}
-use Rattle.chain.specs.RowLaws.{Left, rows}
+use Rattle.chain.specs.RowLaws.{Left, chain-none, rows}
 use Rattle.samples.specs.Run.{Whole, frontAt, lentAt, wholeOf, Going, ReadyRun}
-
--- no value, nothing told
-chain-none : (l : Lent) → l ≡ chainOf [] (l .state) (l .records) (l .room)
-unfolding chainOf ranOf
-chain-none l = let e : l .room .written + 0 ≡ l .room .written = omega arith in rw e
 
 module _ (conjugated : Bool) (table xs : List Float) (w : Whole) where
   pub going-start : ReadyRun table xs w → Going conjugated table xs w w

@@ -20,7 +20,9 @@ pub struct Running {
     pub written: usize,
 }
 
-// Runs over all samples of a block from the first one on.
+// Runs over all samples of a block from the first one on. The row that ends them goes to the chain by a
+// call of its own: a function that is called twice stays out of the loop over the samples, which then
+// has the processor's registers for itself.
 pub fn run(
     first: Running,
     conjugated: bool,
@@ -74,8 +76,42 @@ pub fn run(
             &mut row_imaginary,
         );
         let at = from + f.used;
+        let next = f.place;
         let link = t.chain;
         let records = t.records;
+        if n <= at {
+            let c = chain::chain(
+                link,
+                records,
+                &row_real,
+                &row_imaginary,
+                f.made,
+                &mut *keeper_real,
+                &mut *keeper_imaginary,
+                &mut *clock_real,
+                &mut *clock_imaginary,
+                &mut *weight_real,
+                &mut *weight_imaginary,
+                &mut *channel_real,
+                &mut *channel_imaginary,
+                &mut *costs,
+                &mut *parents,
+                &mut *view_real,
+                &mut *view_imaginary,
+                &mut *dibits,
+                &mut *reliabilities,
+                t.written,
+            );
+            let next_link = c.place;
+            let next_records = c.records;
+            return Running {
+                front: next,
+                chain: next_link,
+                records: next_records,
+                from: at,
+                written: c.written,
+            };
+        }
         let c = chain::chain(
             link,
             records,
@@ -98,7 +134,6 @@ pub fn run(
             &mut *reliabilities,
             t.written,
         );
-        let next = f.place;
         let next_link = c.place;
         let next_records = c.records;
         t = Running {
