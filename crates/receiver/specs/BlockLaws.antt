@@ -13,6 +13,8 @@ use Rattle.laws.specs.Ring.{lt-or-ge}
 use Rattle.numbers.specs.Numbers.{isFinite}
 use Rattle.front.specs.Ready as fit
 use Rattle.labels.specs.Labels.{conjugates}
+use Rattle.chain.specs.declared.ChainPlace.{ChainPlace}
+use Rattle.front.specs.declared.FrontPlace.{FrontPlace}
 use Rattle.admission.specs.declared.refusal.Verdict.the-variants.{Accepted}
 use Rattle.admission.specs.declared.state.Receiver.{Receiver}
 use Rattle.admission.specs.declared.state.Snapshot.{Snapshot}
@@ -22,7 +24,7 @@ use Rattle.admission.specs.Refusal.{numberOf}
 use Rattle.admission.specs.State.{snapshotOf}
 use Rattle.samples.specs.Samples.{countOf, realOf, imaginaryOf, finiteOf}
 use Rattle.samples.specs.Loud.{finite-parts}
-use Rattle.admission.specs.Admitted.{admittedOf}
+use Rattle.admission.specs.Admitted.{stateFits, admittedOf}
 use Rattle.admission.specs.Fits.{Fits, fits-from, fits-to}
 use Rattle.samples.specs.Run.{Whole, wholeOf, Going, ReadyRun}
 use Rattle.receiver.specs.Block.{countRefused, roomRefused, Judged, judgedNow, judgedOf, statedOf, startOf, receiverOf, outcomeNow, endedOf, acceptedOf, refusedBlock, blockOf}
@@ -182,6 +184,15 @@ pub take-asks : (r : Receiver) (table xs : List Float) (dibits reliabilities : �
 take-asks r table xs dibits reliabilities c b je be t =
     ready-block r table xs dibits reliabilities (sym (ap (λ (j : Judged). j .number) je) ∙ eqb-true (numberOf (c .verdict)) 0 (sym be ∙ t))
 
+-- an accepted block's samples leave the total within 2^52
+pub take-total : (total : ℕ) (front : FrontPlace) (chain : ChainPlace) (parents : List ℕ) (xs : List Float) (table dibits reliabilities : ℕ) (c : Checked) (b : Bool)
+    → judgedNow c ≡ statedOf total front chain parents xs table dibits reliabilities → b ≡ eqb (numberOf (c .verdict)) 0 → b ≡ true → total + countOf xs ≤ 2 ^ 52
+unfolding statedOf
+take-total total front chain parents xs table dibits reliabilities c b je be t =
+    let number = sym (ap (λ (j : Judged). j .number) je) ∙ eqb-true (numberOf (c .verdict)) 0 (sym be ∙ t) in
+    let z = first-none (not (stateFits total front chain parents)) (ltb table (32 * front .resampler .arm)) (countRefused total (length xs)) (roomRefused (countOf xs) dibits reliabilities) (not (finiteOf xs)) number in
+    counted total (length xs) (countRefused total (length xs)) refl (z .2) .total-in
+
 module _ (r : Receiver) (table xs : List Float) (ds rs : List ℕ) (c : Checked) (b : Bool) (je : judgedNow c ≡ judgedOf r xs (length table) (length ds) (length rs)) (be : b ≡ eqb (numberOf (c .verdict)) 0) where
   pub take-accepted : (x : Block) (es qs : List ℕ) → b ≡ true → (outcomeNow x es qs ≡ acceptedOf r table xs (c .overload) ds rs) × ((admittedOf (x .receiver) ≡ true) × (x .count ≤ length xs))
       → (outcomeNow x es qs ≡ blockOf r table xs ds rs) × ((numberOf (x .verdict) ≡ 0 → admittedOf (x .receiver) ≡ true) × (x .count ≤ length xs))
@@ -198,3 +209,15 @@ module _ (r : Receiver) (table xs : List Float) (ds rs : List ℕ) (c : Checked)
 
       none : x .count ≡ 0 → x .count ≤ length xs
       none z = omega arith
+
+  -- an accepted block, from what the run left
+  pub taken-is : (conjugated : Bool) (w : Whole) (s : Snapshot) → b ≡ true → conjugated ≡ conjugates (r .chain .profile)
+      → w ≡ wholeOf conjugated table xs (startOf r ds rs) → Going conjugated table xs (startOf r ds rs) w → s ≡ snapshotOf (w .lent .state .place)
+      → (outcomeNow (record { verdict = Accepted; count = w .lent .room .written; overload = c .overload; snapshot = s; receiver = receiverOf (r .total + countOf xs) w }) (w .lent .room .dibits) (w .lent .room .reliabilities)
+      ≡ blockOf r table xs ds rs)
+      × ((numberOf Accepted ≡ 0 → admittedOf (receiverOf (r .total + countOf xs) w) ≡ true) × (w .lent .room .written ≤ length xs))
+  taken-is conjugated w s t ce we g se =
+      take-accepted
+      (record { verdict = Accepted; count = w .lent .room .written; overload = c .overload; snapshot = s; receiver = receiverOf (r .total + countOf xs) w })
+      (w .lent .room .dibits) (w .lent .room .reliabilities) t
+      (accepted-is conjugated r table xs (c .overload) ds rs w s (take-asks r table xs (length ds) (length rs) c b je be t) ce we g se)

@@ -11,17 +11,18 @@ pub struct Points {
     pub error: f64,
 }
 
-// The room is the number of whole pairs of floats lent.
+// The room is the number of whole pairs of floats lent. The view is taken out of the state before the
+// test, so that it is copied once.
 pub fn read(r: Receiver, output: &mut [f32]) -> Points
     ensures { λ p. ⌜ pointsNow p (now (output .exit)) ≡ readingOf r (now (output .entry)) ⌝ }
 {
     let front = r.front;
     let chain = r.chain;
     let parents = r.parents;
+    let real = r.view_real;
+    let imaginary = r.view_imaginary;
     if is_admitted(r.total, front, chain, &parents) {
         let view = chain.view;
-        let real = r.view_real;
-        let imaginary = r.view_imaginary;
         let p = signal::read(view, &real, &imaginary, output);
         return Points {
             verdict: Verdict::Accepted,
