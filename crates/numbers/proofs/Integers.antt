@@ -21,7 +21,8 @@ use mathlib.Core.Logic.{_⊎_, inl, inr}
 use lib.Ieee.Compare.{nan-differs, differs-from-itself}
 use Rattle.laws.specs.FloatPack.{shifted-bits, closest-top}
 use Rattle.laws.specs.FloatRounding.{round-neg}
-use Rattle.numbers.specs.Laws.{or-false, from-false}
+use Rattle.laws.specs.Branches.{or-false}
+use Rattle.numbers.specs.Laws.{from-false}
 
 -- ---- n moved up to the highest place
 pub record High (n z : ℕ) : Type 0 where

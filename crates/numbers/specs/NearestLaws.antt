@@ -17,7 +17,7 @@ use lib.Ieee.Bits.{toBits-ofBits, nanBits-is, is-true, is-false}
 use lib.Ieee.Exact.{HasValue, units-val}
 use lib.Ieee.Nearest.{closest}
 use lib.Ieee.Order.{drop, kept}
-use Rattle.laws.specs.FloatRounding.{units-signed, round-neg}
+use Rattle.laws.specs.FloatRounding.{neg-neg, units-signed, round-neg}
 use Rattle.laws.specs.FloatParts.{field, digitsOf, powerOf, finite-field, float-value, digits-lt}
 use Rattle.laws.specs.FloatPack.{packed, packed-inf, pattern-under, units-fits, no-nan-bits, value-unique}
 use Rattle.laws.specs.FloatValues.{no-inf, no-nan-fin}
@@ -29,15 +29,10 @@ use Rattle.numbers.specs.Faithful.{sqrt-is}
 use Rattle.numbers.specs.Root.{isqrt, closestRoot, roundRoot, sqrtOf}
 use Rattle.numbers.specs.Roots.{isqrt-is, closestRoot-is}
 use Rattle.numbers.specs.RootOrder.{dropR, keptR, kept-le, kept-ge, keptR-le, keptR-ge, all-in-use, roundRoot-is}
-use Rattle.numbers.specs.Nearest.{Exact, ratio, root, AtMost, AtLeast, unitsOf, Value, Nearest}
+use Rattle.numbers.specs.Nearest.{Exact, ratio, root, Proper, AtMost, AtLeast, unitsOf, Value, Nearest}
 use Rattle.numbers.specs.Halves.{Near, nearest-near, multiple-below, multiple-above, multiple-tie, low-below, low-not-above, low-no-tie}
 
 -- ---- an exact number against whole numbers of halves
--- its divisor is above 0
-abbrev pub Proper : Exact → Type 0
-Proper (ratio a b) = 0 < b
-Proper (root a b) = 0 < b
-
 pub at-most-down : (f : Format) (x : Exact) (s t : ℕ) → s ≤ t → AtMost f t x → AtMost f s x
 at-most-down f (ratio a b) s t h k = le-trans (mul-le-mul-right b h) k
 at-most-down f (root a b) s t h k = le-trans (mul-le-mul-right b (mul-le-mul h h)) k
@@ -604,13 +599,6 @@ convert-neg f nan = refl
 convert-neg f (inf s) = refl
 convert-neg f (fin false m e) = round-neg f (m * up e) (down e)
 convert-neg f (fin true m e) = sym (ap neg (round-neg f (m * up e) (down e)) ∙ neg-neg (round f false (m * up e) (down e)))
-  where
-    neg-neg : (x : Float) → neg (neg x) ≡ x
-    neg-neg nan = unfold neg in refl
-    neg-neg (inf true) = unfold neg in refl
-    neg-neg (inf false) = unfold neg in refl
-    neg-neg (fin true m e) = unfold neg in refl
-    neg-neg (fin false m e) = unfold neg in refl
 
 pub sqrt-nearest : (f : Format) (x : Float) → T (positive x) → Nearest f (root (num x) (den x)) (sqrtOf f x)
 sqrt-nearest f x h = subst (Nearest f (root (num x) (den x))) (sym (sqrt-is f x h)) (root-nearest f (num x) (den x) (den-pos x))

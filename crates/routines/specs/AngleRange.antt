@@ -19,7 +19,8 @@ use Rattle.numbers.specs.Numbers.{absOf, signOf, isFinite, convert}
 use Rattle.numbers.specs.Faithful.{keeps-over}
 use Rattle.routines.specs.Circle.{one, under, withSign}
 use Rattle.routines.specs.Angle.{nought, quarterPi, halfPi, pi, factorOf, arcOf, quadrantArc, mirroredOf, arcSize, arctangentOf}
-use Rattle.routines.specs.Squares.{nonneg-finite, nonneg-signed, convert-up}
+use Rattle.laws.specs.FloatSizes.{nonneg-finite}
+use Rattle.routines.specs.Squares.{nonneg-signed, convert-up}
 use Rattle.routines.specs.AngleLaws.{plusZero, pi32, div-is, zero-least, zero-equal}
 
 -- ---- in 0..b, and with its sign clear

@@ -18,12 +18,13 @@ use Rattle.laws.specs.FloatOrder.{nonneg, le→cross}
 use Rattle.laws.specs.FloatRounding.{signed, round-signed}
 use Rattle.laws.specs.FloatParts.{field, digitsOf, powerOf, finite-field, float-value, digits-lt}
 use Rattle.laws.specs.FloatValues.{round-least, round-most, no-inf, no-nan-fin}
+use Rattle.laws.specs.FloatSizes.{capped, nonneg-finite}
 use Rattle.numbers.specs.Numbers.{convert}
 use Rattle.numbers.specs.Nearest.{Value}
 use Rattle.numbers.specs.Root.{sqrtOf}
 use Rattle.numbers.specs.Faithful.{root-under, root-over}
-use Rattle.routines.specs.Hypotenuse.{infinite, rootOfSquares, hypotenuseOf}
-use Rattle.routines.specs.Squares.{square-is, nonneg-of, nonneg-finite, lt-clash, gt-clash, not-under, convert-up, convert-fits, sqrt-up}
+use Rattle.routines.specs.Hypotenuse.{infinite, rootOfSquares, hypotenuseOf, over, under, Between}
+use Rattle.routines.specs.Squares.{square-is, nonneg-of, lt-clash, gt-clash, not-under, convert-up, convert-fits, sqrt-up}
 
 -- ---- the square of a value of binary32 is a value of binary64
 poly : (a b d u P R : ℕ) → a * P ≡ d * u * b → a * a * (P * P * R) ≡ d * d * (u * u * R) * (b * b)
@@ -72,13 +73,7 @@ bounded (fin s (suc m) e) h F =
     let last = and-r (eqb (suc m % 2) 1 && ltb (suc m) (2 ^ 24) && leb (down e) (2 ^ 149)) (ltb (suc m * up e) (2 ^ 128 * down e)) F in
     le-of-lt (ltb→lt (suc m * up e) (2 ^ 128 * down e) last)
 
--- ---- the sum of squares, as a fraction over / under
-abbrev pub over : Float → Float → ℕ
-over x y = num x * num x * (den y * den y) + num y * num y * (den x * den x)
-
-abbrev pub under : Float → Float → ℕ
-under x y = den x * den x * (den y * den y)
-
+-- ---- the sum of squares
 under-pos : (x y : Float) → 0 < under x y
 under-pos x y = mul-pos (mul-pos (den-pos x) (den-pos x)) (mul-pos (den-pos y) (den-pos y))
 
@@ -118,14 +113,6 @@ squares-is x y h k F G =
     (same-sum (num X) (den X) (num Y) (den Y) (num x * num x) (den x * den x) (num y * num y) (den y * den y) (value→cross X (num x * num x) (den x * den x) p) (value→cross Y (num y * num y) (den y * den y) q))
 
 -- ---- and it does not overflow
-capped : (z : Float) → T (signed false z) → T (le z (fin false 1 (pos 257))) → T (nonneg z)
-unfolding le
-capped nan u h = absurd u
-capped (inf true) u h = absurd u
-capped (inf false) u h = absurd h
-capped (fin true m e) u h = absurd u
-capped (fin false m e) u h = tt
-
 square-most : (n d P : ℕ) → n ≤ P * d → n * n ≤ P * P * (d * d)
 square-most n d P h = le-trans (mul-le-mul h h) (le-of-eq (mul-mul-mul-comm P d P d))
 
@@ -145,7 +132,7 @@ ceiling-fits = tt
 squares-nonneg : (x y : Float) → T (finite x) → T (finite y) → T (fits binary32 x) → T (fits binary32 y) → T (nonneg (squares x y))
 squares-nonneg x y h k F G =
     subst (λ (z : Float). T (nonneg z)) (sym (squares-is x y h k F G))
-    (capped (round binary64 false (over x y) (under x y)) (round-signed false binary64 (over x y) (under x y))
+    (capped (round binary64 false (over x y) (under x y)) 257 (round-signed false binary64 (over x y) (under x y))
     (round-most binary64 (over x y) (under x y) (fin false 1 (pos 257)) (under-pos x y) tt ceiling-fits
     (le-trans (le-of-eq (mul-one (over x y))) (over-most x y h k F G))))
 
@@ -264,11 +251,7 @@ finite-is-root (fin s m e) nan h k = absurd k
 finite-is-root (fin s m e) (inf t) h k = absurd k
 finite-is-root (fin s m e) (fin t n d) h k = refl
 
--- ---- document 01 in one record: for finite x and y, and every value v of binary32 that is not negative
-pub record Between (x y v r : Float) : Type 0 where
-  pub above-lower : T (lt v r) → num v * num v * under x y < over x y * (den v * den v)
-  pub below-upper : T (lt r v) → over x y * (den v * den v) < num v * num v * under x y
-
+-- ---- for finite x and y, and every value v of binary32 that is not negative
 pub hypotenuse-between : (x y v : Float) → T (finite x) → T (finite y) → T (fits binary32 x) → T (fits binary32 y) → T (nonneg v) → T (fits binary32 v) → Between x y v (hypotenuseOf x y)
 hypotenuse-between x y v h k F G N H =
     subst (Between x y v) (sym (finite-is-root x y h k))
