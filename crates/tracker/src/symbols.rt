@@ -4,7 +4,7 @@ ghost use Prim.Native.Nat.{_<_};
 ghost use Rattle.tracker.specs.Tracker.{realOf, imaginaryOf, symbolOf};
 use complex::Complex32;
 
-// 1 / sqrt(2)
+// Each part of a symbol in size: 1 / sqrt(2).
 const LEVEL: f32 = 0.70710677;
 
 fn real(k: u32) -> f32

@@ -20,23 +20,23 @@ use Rattle.trellis.specs.Arrivals.{arrived-plain}
 use Rattle.trellis.specs.Runs.{tiers, tiers-at, eachTurn, each-end}
 
 -- ---- one branch
-pub sum-step : (c past : Planes) (costs : List Float) (s input : Complex32) (reliable : Bool) (p : ℕ) (l m : List Float) (guess : Complex32) (e : Float)
-    → guess ≡ predictionWith c past s p → e ≡ metricOf input guess reliable → m ≡ fill (sumWith c past costs s input reliable) p l
+pub sum-step : (c past : Planes) (costs : List Float) (s input : Complex32) (reliable : Bool) (p : ℕ) (l m : List Float) (prediction : Complex32) (e : Float)
+    → prediction ≡ predictionWith c past s p → e ≡ metricOf input prediction reliable → m ≡ fill (sumWith c past costs s input reliable) p l
     → set m p (add binary32 (getD costs p nan) e) ≡ fill (sumWith c past costs s input reliable) (p + 1) l
 unfolding sumWith
-sum-step c past costs s input reliable p l m guess e g f h =
+sum-step c past costs s input reliable p l m prediction e g f h =
     fill-step (sumWith c past costs s input reliable) p l m (set m p (add binary32 (getD costs p nan) e))
     (ap (λ (z : Float). set m p (add binary32 (getD costs p nan) z)) (f ∙ ap (λ (z : Complex32). metricOf input z reliable) g)) h
 
-pub real-step : (c past : Planes) (s : Complex32) (p : ℕ) (l m : List Float) (guess : Complex32)
-    → guess ≡ predictionWith c past s p → m ≡ fill (realWith c past s) p l → set m p (guess .real) ≡ fill (realWith c past s) (p + 1) l
+pub real-step : (c past : Planes) (s : Complex32) (p : ℕ) (l m : List Float) (prediction : Complex32)
+    → prediction ≡ predictionWith c past s p → m ≡ fill (realWith c past s) p l → set m p (prediction .real) ≡ fill (realWith c past s) (p + 1) l
 unfolding realWith
-real-step c past s p l m guess g h = fill-step (realWith c past s) p l m (set m p (guess .real)) (ap (λ (z : Complex32). set m p (z .real)) g) h
+real-step c past s p l m prediction g h = fill-step (realWith c past s) p l m (set m p (prediction .real)) (ap (λ (z : Complex32). set m p (z .real)) g) h
 
-pub imaginary-step : (c past : Planes) (s : Complex32) (p : ℕ) (l m : List Float) (guess : Complex32)
-    → guess ≡ predictionWith c past s p → m ≡ fill (imaginaryWith c past s) p l → set m p (guess .imaginary) ≡ fill (imaginaryWith c past s) (p + 1) l
+pub imaginary-step : (c past : Planes) (s : Complex32) (p : ℕ) (l m : List Float) (prediction : Complex32)
+    → prediction ≡ predictionWith c past s p → m ≡ fill (imaginaryWith c past s) p l → set m p (prediction .imaginary) ≡ fill (imaginaryWith c past s) (p + 1) l
 unfolding imaginaryWith
-imaginary-step c past s p l m guess g h = fill-step (imaginaryWith c past s) p l m (set m p (guess .imaginary)) (ap (λ (z : Complex32). set m p (z .imaginary)) g) h
+imaginary-step c past s p l m prediction g h = fill-step (imaginaryWith c past s) p l m (set m p (prediction .imaginary)) (ap (λ (z : Complex32). set m p (z .imaginary)) g) h
 
 -- ---- one cost taken off all
 unfoldable pub offTurn : Float → ℕ → List Float → List Float

@@ -1,4 +1,4 @@
--- `trellis::choice::cheaper` meets its contract. Assumes nothing.
+-- `choice::cheaper` meets its contract: the branch that stands in the planes where it is cheaper, and else the one before. Assumes nothing.
 use mathlib.Core.Path.{refl}
 use Rattle.laws.specs.Branches.{cond-yes, cond-no}
 use Rattle.trellis.specs.Layout.{betterAt}

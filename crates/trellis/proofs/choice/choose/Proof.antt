@@ -1,4 +1,4 @@
--- `trellis::choice::choose` meets its contract. Assumes nothing.
+-- `choice::choose` meets its contract: each turn of the loop lays the choice for one q at its place of the four planes. Assumes nothing.
 use mathlib.Core.Path.{_≡_, ap}
 use Prim.Native.Nat.{_-_, _≤_}
 use Rattle.laws.specs.Places.{laid}
@@ -79,13 +79,9 @@ loop-again c = (
 returns : tie.Need-returns Inv-loop μ-loop
 returns c = (
   laid-end _ _ _ 16 _ _ (c .before .loop .inv .1) (search needs) (search needs),
-  (
-    laid-end _ _ _ 16 _ _ (c .before .loop .inv .2) (search needs) (search needs),
-    (
-      laid-end _ _ _ 16 _ _ (c .before .loop .inv .3) (search needs) (search needs),
-      laid-end _ _ _ 16 _ _ (c .before .loop .inv .4) (search needs) (search needs),
-    ),
-  ),
+  laid-end _ _ _ 16 _ _ (c .before .loop .inv .2) (search needs) (search needs),
+  laid-end _ _ _ 16 _ _ (c .before .loop .inv .3) (search needs) (search needs),
+  laid-end _ _ _ 16 _ _ (c .before .loop .inv .4) (search needs) (search needs),
 )
 
 pub choose-spec : {M : Type 1} → statement M

@@ -1,4 +1,4 @@
--- `trellis::choice::first_cheapest` meets its contract. Assumes nothing.
+-- `choice::first_cheapest` meets its contract: the four priors are compared one after the other, from the first on. Assumes nothing.
 use Rattle.trellis.specs.Layout.{firstAt}
 use borrow.Author.Needs.{needs}
 use Rattle.trellis.proofs.choice.first_cheapest.Statement.{statement}
