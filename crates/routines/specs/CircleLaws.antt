@@ -1,4 +1,4 @@
--- Document 01 on sine and cosine: sine keeps a zero's sign and is exactly odd, cosine is exactly even, both are within -1..1, and a NaN, an infinity and what is beyond 64 give a NaN.
+-- Sine and cosine (docs/SPECIFICATION.md): sine keeps a zero's sign and is exactly odd, cosine is exactly even, both are within -1..1, and a NaN, an infinity and what is beyond 64 give a NaN.
 -- Assumes nothing.
 use mathlib.Core.Path.{_≡_, refl, sym, ap, _∙_, subst}
 use Prim.Native.Nat.{ℕ, zero, suc, _+_, _*_, _^_, _<_}

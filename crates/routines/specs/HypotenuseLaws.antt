@@ -1,4 +1,4 @@
--- Document 01 on the hypotenuse: an infinity wins over a NaN, a NaN without one gives a NaN, and otherwise the result is no NaN and the exact root lies strictly between its two neighbours.
+-- The hypotenuse (docs/SPECIFICATION.md): an infinity wins over a NaN, a NaN without one gives a NaN, and otherwise the result is no NaN and the exact root lies strictly between its two neighbours.
 -- Assumes nothing.
 use mathlib.Core.Path.{_≡_, refl, sym, ap, _∙_, subst}
 use Prim.Native.Nat.{ℕ, zero, suc, _+_, _-_, _*_, _%_, _^_, _≤_, _<_, zero-le}
@@ -169,7 +169,7 @@ root-most v (fin false zero e) p F q h =
     (round-most binary32 (0 * up e) (down e) v (down-pos e) p F (le-trans (le-of-eq none) zero-le))
 root-most v (fin false (suc m) e) p F q h = root-over v (fin false (suc m) e) p F (lt→ltb 0 (suc m) (above-zero m)) h
 
--- ---- document 01: the exact root, the root of over x y / under x y, lies strictly between the result's neighbours: it is above every value v of binary32 that is
+-- ---- the exact root, the root of over x y / under x y, lies strictly between the result's neighbours: it is above every value v of binary32 that is
 -- below the result, and below every one that is above the result. Where the result is an infinity, the first half says that every finite value is below the root.
 module _ (x y v : Float) (h : T (finite x)) (k : T (finite y)) (F : T (fits binary32 x)) (G : T (fits binary32 y)) (N : T (nonneg v)) (H : T (fits binary32 v)) where
   -- v * v at most the exact sum is at most the rounded one, since v * v is a value of binary64
