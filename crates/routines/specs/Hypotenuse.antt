@@ -25,14 +25,14 @@ unfoldable pub hypotenuseOf : Float → Float → Float
 unfolding infinite rootOfSquares
 hypotenuseOf x y = cond (infinite x || infinite y) (inf false) (rootOfSquares x y)
 
--- ---- how near it is: the exact root is that of the fraction over / under
-abbrev pub over : Float → Float → ℕ
-over x y = num x * num x * (den y * den y) + num y * num y * (den x * den x)
+-- ---- how near it is: the exact root is that of the fraction squaresOver / squaresUnder
+abbrev pub squaresOver : Float → Float → ℕ
+squaresOver x y = num x * num x * (den y * den y) + num y * num y * (den x * den x)
 
-abbrev pub under : Float → Float → ℕ
-under x y = den x * den x * (den y * den y)
+abbrev pub squaresUnder : Float → Float → ℕ
+squaresUnder x y = den x * den x * (den y * den y)
 
 -- r against a value v: where v is below r it is below the exact root, and where v is above r it is above the exact root. So the exact root lies strictly between r's two neighbours.
 pub record Between (x y v r : Float) : Type 0 where
-  pub above-lower : T (lt v r) → num v * num v * under x y < over x y * (den v * den v)
-  pub below-upper : T (lt r v) → over x y * (den v * den v) < num v * num v * under x y
+  pub above-lower : T (lt v r) → num v * num v * squaresUnder x y < squaresOver x y * (den v * den v)
+  pub below-upper : T (lt r v) → squaresOver x y * (den v * den v) < num v * num v * squaresUnder x y
