@@ -14,7 +14,7 @@ use Rattle.numbers.specs.Root.{sqrtOf}
 use Rattle.tracker.specs.declared.channel.Taps.{Taps}
 use Rattle.tracker.specs.Stripes.{column, columns, columns-length, column-same}
 use Rattle.tracker.specs.Tracker.{level, realOf, imaginaryOf, symbolOf, Planes, pointAt, termOf, predictionOf, tapsOf, learntOf, normOf, mostPower, mostSize, gainOf, scaledTaps, limitedOf, inheritedAt, learntAt, tapsAfter, tapOf, laidOut, followedOf}
-use Rattle.tracker.specs.Layout.{pastOf, predictionWith, putOf, limitedPart, limitedAt, scaledColumn, limitColumn}
+use Rattle.tracker.specs.Layout.{pastOf, predictedOf, putOf, limitedPart, limitedAt, scaledColumn, limitColumn}
 
 -- ---- the symbols' signs
 pub real-plus : (k : ℕ) → k < 4 → (k + 1) % 4 < 2 → level ≡ realOf k
@@ -62,7 +62,7 @@ past-end part c = columns nan (λ t p x. part (pastOf c t p)) 3
 -- ---- the prediction from the planes is the prediction
 pub prediction-is : (c past : Planes) (k p : ℕ) → p < 64
     → past .real ≡ upto (λ i. pastOf c (i / 64) (i % 64) .real) 192 → past .imaginary ≡ upto (λ i. pastOf c (i / 64) (i % 64) .imaginary) 192
-    → predictionWith c past (symbolOf k) p ≡ predictionOf c k p
+    → predictedOf c past (symbolOf k) p ≡ predictionOf c k p
 prediction-is c past k p h e f =
     rw (
       real-is 0 p (omega arith) (omega arith) (omega arith),

@@ -24,8 +24,8 @@ abbrev pub pastOf : Planes → ℕ → ℕ → Complex32
 pastOf c t p = termOf c (p + 64 * (t + 1)) (heldOf p t)
 
 -- the prediction from those terms, laid tap after tap, for the symbol `newest`
-abbrev pub predictionWith : Planes → Planes → Complex32 → ℕ → Complex32
-predictionWith c past newest p = sumOf (sumOf (sumOf (sumOf zeroPair (productOf (pointAt c p) newest)) (pointAt past p)) (pointAt past (p + 64))) (pointAt past (p + 128))
+abbrev pub predictedOf : Planes → Planes → Complex32 → ℕ → Complex32
+predictedOf c past newest p = sumOf (sumOf (sumOf (sumOf zeroPair (productOf (pointAt c p) newest)) (pointAt past p)) (pointAt past (p + 64))) (pointAt past (p + 128))
 
 -- ---- the limit, place by place
 

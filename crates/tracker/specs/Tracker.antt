@@ -16,6 +16,7 @@ use Rattle.tracker.specs.declared.channel.Taps.{Taps}
 abbrev pub level : Float
 level = rootHalf
 
+-- the symbols 0 to 3 lie at 45, 135, 225 and 315 degrees
 abbrev pub realOf : ℕ → Float
 realOf k = getD (level ∷ neg level ∷ neg level ∷ level ∷ []) k level
 

@@ -8,7 +8,7 @@ ghost use Rattle.tracker.specs.Tracker.{tapsOf};
 use super::CHANNELS;
 use complex::Complex32;
 
-// For the newest symbol and the three before it.
+// The taps of one state: for the newest symbol and for the three before it.
 pub struct Taps {
     pub main: Complex32,
     pub one: Complex32,
@@ -16,6 +16,7 @@ pub struct Taps {
     pub three: Complex32,
 }
 
+// The taps of one state, read from the two planes.
 pub fn taps_at(real: &[f32; CHANNELS], imaginary: &[f32; CHANNELS], state: usize) -> Taps
     requires { ⌜ state < 64 ⌝ }
     ensures { λ r. ⌜ reads real imaginary (λ channels. r ≡ tapsOf channels state) ⌝ }
@@ -40,6 +41,7 @@ pub fn taps_at(real: &[f32; CHANNELS], imaginary: &[f32; CHANNELS], state: usize
     }
 }
 
+// One part of a state's taps, put in its four places of a plane.
 fn put(plane: &mut [f32; CHANNELS], state: usize, main: f32, one: f32, two: f32, three: f32)
     requires { ⌜ (state < 64) × (length (now plane) ≡ 256) ⌝ }
     ensures { λ r. ⌜ now (plane .exit) ≡ putOf (now (plane .entry)) state main one two three ⌝ }
@@ -50,6 +52,7 @@ fn put(plane: &mut [f32; CHANNELS], state: usize, main: f32, one: f32, two: f32,
     plane[state + 192] = three;
 }
 
+// The taps of one state, put in their places of both planes.
 pub fn put_taps(real: &mut [f32; CHANNELS], imaginary: &mut [f32; CHANNELS], state: usize, t: Taps)
     requires { ⌜ (state < 64) × (length (now real) ≡ 256) × (length (now imaginary) ≡ 256) ⌝ }
     ensures { λ r. ⌜ now (real .exit) ≡ putOf (now (real .entry)) state (t .main .real) (t .one .real) (t .two .real) (t .three .real) ⌝ }

@@ -59,6 +59,7 @@ fn learnt(t: Taps, error: Complex32, newest: u32, prior: u32) -> Taps
     }
 }
 
+// The taps' power: the sum of the squares of their sizes.
 fn norm_of(t: Taps) -> f32
     ensures { λ r. ⌜ r ≡ normOf t ⌝ }
 {
@@ -117,7 +118,7 @@ fn scale(plane: &mut [f32; CHANNELS], state: usize, gain: f32)
     plane[state + 192] = plane[state + 192] * gain;
 }
 
-// Taps of a power above 16 are brought back to it.
+// One state's taps, brought back to a power of 16 where theirs is above it.
 fn limit_taps(real: &mut [f32; CHANNELS], imaginary: &mut [f32; CHANNELS], state: usize, norm: f32)
     requires { ⌜ (state < 64) × (length (now real) ≡ 256) × (length (now imaginary) ≡ 256) ⌝ }
     ensures { λ r. ⌜ now (real .exit) ≡ limitColumn norm state (now (real .entry)) ⌝ }
@@ -130,6 +131,7 @@ fn limit_taps(real: &mut [f32; CHANNELS], imaginary: &mut [f32; CHANNELS], state
     }
 }
 
+// The taps of every state, each limited by its own power.
 fn limit(real: &mut [f32; CHANNELS], imaginary: &mut [f32; CHANNELS], norms: &[f32; STATES])
     requires { ⌜ (length (now real) ≡ 256) × (length (now imaginary) ≡ 256) ⌝ }
     ensures { λ r. ⌜ now (real .exit) ≡ upto (limitedAt (now (norms .entry)) (now (real .entry))) 256 ⌝ }

@@ -3,7 +3,7 @@ ghost use mathlib.Core.Path.{_≡_};
 ghost use Prim.Native.Nat.{_<_, _/_, _%_};
 ghost use lib.ListN.{length};
 ghost use Rattle.laws.specs.Places.{upto};
-ghost use Rattle.tracker.specs.Layout.{pastOf, predictionWith};
+ghost use Rattle.tracker.specs.Layout.{pastOf, predictedOf};
 ghost use Rattle.tracker.specs.Lends.{reads};
 ghost use Rattle.tracker.specs.Tracker.{termOf};
 use super::CHANNELS;
@@ -66,7 +66,7 @@ pub fn predicted(
 ) -> Complex32
     requires { ⌜ p < 64 ⌝ }
     ensures { λ r. ⌜ reads real imaginary (λ channels. reads «past_real» «past_imaginary» (λ past.
-        r ≡ predictionWith channels past newest p)) ⌝ }
+        r ≡ predictedOf channels past newest p)) ⌝ }
 {
     Complex32 {
         real: 0.0

@@ -8,6 +8,7 @@ ghost use Rattle.trellis.specs.Trellis.{bestOf};
 ghost use Rattle.trellis.specs.Layout.{nearerOf, Plain};
 use tracker::STATES;
 
+// A state and what it costs.
 pub struct Least {
     pub state: usize,
     pub cost: f32,
@@ -58,7 +59,7 @@ pub fn cheapest(costs: &[f32; STATES]) -> Least
     nearer(abc, d.cost, d.state)
 }
 
-// One cost, taken off all.
+// Takes one cost off the costs of all states.
 pub fn take_off(costs: &mut [f32; STATES], least: f32)
     requires { ⌜ length (now costs) ≡ 64 ⌝ }
     ensures { λ r. ⌜ now (costs .exit) ≡ upto (λ s. Ieee.sub Ieee.binary32 (getD (now (costs .entry)) s Ieee.nan) least) 64 ⌝ }

@@ -5,10 +5,11 @@ ghost use lib.ListN.{length, getD};
 ghost use lib.Ieee.{nan};
 ghost use Rattle.laws.specs.Places.{upto};
 ghost use Rattle.tracker.specs.Tracker.{Parents};
-ghost use Rattle.trellis.specs.Layout.{betterAt, firstAt};
+ghost use Rattle.trellis.specs.Layout.{cheaperOf, firstCheapestOf};
 ghost use Rattle.trellis.specs.Lends.{lays};
 use tracker::STATES;
 
+// A branch to a state: what it costs so far, the prior that it comes from, and what that predicts.
 pub struct Branch {
     pub cost: f32,
     pub prior: u32,
@@ -25,7 +26,7 @@ fn cheaper(
     prior: usize,
 ) -> Branch
     requires { ⌜ prior < 64 ⌝ }
-    ensures { λ r. ⌜ r ≡ betterAt b (now (sums .entry)) (now (real .entry)) (now (imaginary .entry)) prior ⌝ }
+    ensures { λ r. ⌜ r ≡ cheaperOf b (now (sums .entry)) (now (real .entry)) (now (imaginary .entry)) prior ⌝ }
 {
     let cost = sums[prior];
     if cost < b.cost {
@@ -48,7 +49,7 @@ fn first_cheapest(
     q: usize,
 ) -> Branch
     requires { ⌜ q < 16 ⌝ }
-    ensures { λ r. ⌜ r ≡ firstAt (now (sums .entry)) (now (real .entry)) (now (imaginary .entry)) q ⌝ }
+    ensures { λ r. ⌜ r ≡ firstCheapestOf (now (sums .entry)) (now (real .entry)) (now (imaginary .entry)) q ⌝ }
 {
     let none = Branch {
         cost: 1.0 / 0.0,
@@ -62,7 +63,7 @@ fn first_cheapest(
     cheaper(c, sums, real, imaginary, q + 48)
 }
 
-// The choice for each q, laid at from + q.
+// The first cheapest branch for each q below 16, laid at from + q of the four planes.
 pub fn choose(
     sums: &[f32; STATES],
     real: &[f32; STATES],
@@ -75,7 +76,7 @@ pub fn choose(
 )
     requires { ⌜ from + 16 ≤ 64 ⌝ }
     ensures { λ r. ⌜ lays cost prior «chosen_real» «chosen_imaginary» from
-        (firstAt (now (sums .entry)) (now (real .entry)) (now (imaginary .entry))) ⌝ }
+        (firstCheapestOf (now (sums .entry)) (now (real .entry)) (now (imaginary .entry))) ⌝ }
 {
     let mut q = 0;
     while q < 16 {
@@ -103,6 +104,7 @@ pub fn interleave(x: &[f32; STATES], out: &mut [f32])
     }
 }
 
+// The same for priors: each is below 64 and fits a byte.
 pub fn interleave_priors(x: &[u32; STATES], out: &mut [u8; STATES])
     requires { ⌜ (length (now out) ≡ 64) × Parents (now x) ⌝ }
     ensures { λ r. ⌜ now (out .exit) ≡ upto (λ s. getD (now (x .entry)) (16 * (s % 4) + s / 4) 0) 64 ⌝ }

@@ -6,7 +6,7 @@ ghost use lib.ListN.{length};
 ghost use Rattle.tracker.specs.Lends.{reads};
 ghost use Rattle.tracker.specs.Tracker.{Parents};
 ghost use Rattle.trellis.specs.Trellis.{arrivalOf, advancedOf};
-ghost use Rattle.trellis.specs.Layout.{roundOf, Values};
+ghost use Rattle.trellis.specs.Layout.{sweptOf, Values};
 ghost use Rattle.trellis.specs.Lends.{lays, fills, leaves};
 use super::best::cheapest;
 use super::best::take_off;
@@ -21,7 +21,7 @@ use tracker::STATES;
 use tracker::predict::past_terms;
 use tracker::symbols::symbol;
 
-// From all priors by the symbol k, laid at 16 k.
+// The first cheapest branches by the symbol k, laid at 16 k and after it.
 fn sweep(
     real: &[f32; CHANNELS],
     imaginary: &[f32; CHANNELS],
@@ -41,7 +41,7 @@ fn sweep(
 )
     requires { ⌜ (k < 4) × (length (now costs) ≡ 64) × (length (now sums) ≡ 64) × (length (now «prediction_real») ≡ 64) × (length (now «prediction_imaginary») ≡ 64) ⌝ }
     ensures { λ r. ⌜ reads real imaginary (λ channels. reads «past_real» «past_imaginary» (λ past.
-        lays cost prior «chosen_real» «chosen_imaginary» (16 * k) (roundOf channels past (now (costs .entry)) input reliable k))) ⌝ }
+        lays cost prior «chosen_real» «chosen_imaginary» (16 * k) (sweptOf channels past (now (costs .entry)) input reliable k))) ⌝ }
     ensures { λ r. ⌜ (length (now (sums .exit)) ≡ 64) × (length (now («prediction_real» .exit)) ≡ 64) × (length (now («prediction_imaginary» .exit)) ≡ 64) ⌝ }
 {
     branches(

@@ -5,7 +5,7 @@ use lib.Ieee.{nan}
 use lib.ListN.{length}
 use Rattle.trellis.specs.Laws.{extend-is, priors-small}
 use Rattle.trellis.specs.Runs.{tiers, tiers-start, tiers-step}
-use Rattle.trellis.specs.Layout.{roundOf}
+use Rattle.trellis.specs.Layout.{sweptOf}
 use borrow.Author.Needs.{needs}
 use Rattle.trellis.proofs.step.extend.Statement.{statement}
 use Rattle.trellis.proofs.step.extend.Tie as tie
@@ -16,10 +16,10 @@ Inv-loop real imaginary input reliable costs parents prediction-real prediction-
     × (length sums ≡ 64)
     × (length branch-real ≡ 64)
     × (length branch-imaginary ≡ 64)
-    × (cost ≡ tiers (λ i q. roundOf (record { real = real; imaginary = imaginary }) (record { real = past-real; imaginary = past-imaginary }) costs input reliable i q .cost) k cost₀)
-    × (prior ≡ tiers (λ i q. roundOf (record { real = real; imaginary = imaginary }) (record { real = past-real; imaginary = past-imaginary }) costs input reliable i q .prior) k prior₀)
-    × (chosen-real ≡ tiers (λ i q. roundOf (record { real = real; imaginary = imaginary }) (record { real = past-real; imaginary = past-imaginary }) costs input reliable i q .real) k chosen-real₀)
-    × (chosen-imaginary ≡ tiers (λ i q. roundOf (record { real = real; imaginary = imaginary }) (record { real = past-real; imaginary = past-imaginary }) costs input reliable i q .imaginary) k chosen-imaginary₀)
+    × (cost ≡ tiers (λ i q. sweptOf (record { real = real; imaginary = imaginary }) (record { real = past-real; imaginary = past-imaginary }) costs input reliable i q .cost) k cost₀)
+    × (prior ≡ tiers (λ i q. sweptOf (record { real = real; imaginary = imaginary }) (record { real = past-real; imaginary = past-imaginary }) costs input reliable i q .prior) k prior₀)
+    × (chosen-real ≡ tiers (λ i q. sweptOf (record { real = real; imaginary = imaginary }) (record { real = past-real; imaginary = past-imaginary }) costs input reliable i q .real) k chosen-real₀)
+    × (chosen-imaginary ≡ tiers (λ i q. sweptOf (record { real = real; imaginary = imaginary }) (record { real = past-real; imaginary = past-imaginary }) costs input reliable i q .imaginary) k chosen-imaginary₀)
 
 abbrev μ-loop : tie.MeasureT-loop
 μ-loop real imaginary input reliable costs parents prediction-real prediction-imaginary past-real past-imaginary sums₀ branch-real₀ branch-imaginary₀ cost₀ prior₀ chosen-real₀ chosen-imaginary₀ k₀ sums branch-real branch-imaginary cost prior chosen-real chosen-imaginary k = 4 - k
