@@ -5,6 +5,10 @@ use Rattle.numbers.specs.Numbers.{isFinite, convert}
 use Rattle.complex.specs.declared.Complex32.{Complex32}
 use Rattle.complex.specs.declared.Complex64.{Complex64}
 
+-- 1 / √2 to the nearest f32
+abbrev pub rootHalf : Float
+rootHalf = ofBits binary32 0x3f3504f3  -- 0.70710677
+
 abbrev pub zeroPair : Complex32
 zeroPair = record { real = ofBits binary32 0; imaginary = ofBits binary32 0 }
 

@@ -1,6 +1,6 @@
 -- A branch: what a `cond` is where its test is known, and what a test that holds says. Assumes nothing.
 use mathlib.Core.Path.{_≡_, refl, sym}
-use mathlib.Core.Bool.{Bool, true, false, not, cond, _&&_, false≢true}
+use mathlib.Core.Bool.{Bool, true, false, not, cond, _&&_, _||_, false≢true, true≢false}
 
 module _ {A : Type 0} where
   pub cond-yes : (b : Bool) (x y : A) → b ≡ true → x ≡ cond b x y
@@ -23,3 +23,7 @@ not-false false h = sym h
 pub and-true : (a b : Bool) → (a && b) ≡ true → (a ≡ true) × (b ≡ true)
 and-true true b h = (refl, h)
 and-true false b h = absurd (false≢true h)
+
+pub or-false : (a b : Bool) → (a || b) ≡ false → (a ≡ false) × (b ≡ false)
+or-false true b h = absurd (true≢false h)
+or-false false b h = (refl, h)

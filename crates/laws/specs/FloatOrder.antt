@@ -165,7 +165,10 @@ le→cross (fin true m e) y p q h = absurd p
 le→cross (fin false m e) nan p q h = absurd q
 le→cross (fin false m e) (inf t) p q h = absurd q
 le→cross (fin false m e) (fin true n d) p q h = absurd q
-le→cross (fin false m e) (fin false n d) p q h = elim (or-split (ltb (m * up e * down d) (n * up d * down e)) (eqb (m * up e * down d) (n * up d * down e) && true) h) [ inl u ↦ le-of-lt (ltb→lt (m * up e * down d) (n * up d * down e) u) | inr u ↦ le-of-eq (eqb→eq (m * up e * down d) (n * up d * down e) (and-l (eqb (m * up e * down d) (n * up d * down e)) true u)) ]
+le→cross (fin false m e) (fin false n d) p q h =
+    let a = m * up e * down d in
+    let b = n * up d * down e in
+    elim (or-split (ltb a b) (eqb a b && true) h) [ inl u ↦ le-of-lt (ltb→lt a b u) | inr u ↦ le-of-eq (eqb→eq a b (and-l (eqb a b) true u)) ]
 
 -- ---- of any two values but NaNs, one is below the other or at most it
 from-false : (b : Bool) → b ≡ false → T (not b)

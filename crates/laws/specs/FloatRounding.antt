@@ -13,7 +13,16 @@ use lib.Ieee.Order.{round-mono}
 use lib.Ieee.Scale.{round-same}
 use Rattle.laws.specs.FloatOrder.{atMost→, →atMost}
 
--- ---- negation turns the order round
+-- ---- negation
+pub neg-neg : (x : Float) → neg (neg x) ≡ x
+unfolding neg
+neg-neg nan = refl
+neg-neg (inf true) = refl
+neg-neg (inf false) = refl
+neg-neg (fin true m e) = refl
+neg-neg (fin false m e) = refl
+
+-- it turns the order round
 swap : (s : Bool) (a : ℕ) (t : Bool) (b : ℕ) → cond s 0 a + cond t b 0 ≤ cond t 0 b + cond s a 0 → cond (not t) 0 b + cond (not s) a 0 ≤ cond (not s) 0 a + cond (not t) b 0
 swap false a false b h = omega arith
 swap false a true b h = omega arith

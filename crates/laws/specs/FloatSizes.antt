@@ -24,7 +24,8 @@ pub record Small (k : ℕ) (x : Float) : Type 0 where
 abbrev pub power : ℕ → Float
 power k = fin false 1 (pos k)
 
-capped : (z : Float) (k : ℕ) → T (signed false z) → T (le z (power k)) → T (nonneg z)
+-- what is rounded without a sign and is at most 2 ^ k is a number
+pub capped : (z : Float) (k : ℕ) → T (signed false z) → T (le z (power k)) → T (nonneg z)
 unfolding le
 capped nan k u h = absurd u
 capped (inf true) k u h = absurd u
@@ -32,7 +33,7 @@ capped (inf false) k u h = absurd h
 capped (fin true m e) k u h = absurd u
 capped (fin false m e) k u h = tt
 
-nonneg-finite : (x : Float) → T (nonneg x) → T (finite x)
+pub nonneg-finite : (x : Float) → T (nonneg x) → T (finite x)
 nonneg-finite nan h = absurd h
 nonneg-finite (inf s) h = absurd h
 nonneg-finite (fin s m e) h = tt

@@ -21,7 +21,8 @@ use mathlib.Core.Logic.{_⊎_, inl, inr}
 use lib.Ieee.Compare.{nan-differs, differs-from-itself}
 use Rattle.laws.specs.FloatPack.{shifted-bits, closest-top}
 use Rattle.laws.specs.FloatRounding.{round-neg}
-use Rattle.numbers.specs.Laws.{or-false, from-false}
+use Rattle.laws.specs.Branches.{or-false}
+use Rattle.numbers.specs.Laws.{from-false}
 
 -- ---- n moved up to the highest place
 pub record High (n z : ℕ) : Type 0 where
@@ -64,18 +65,18 @@ module _ (n z : ℕ) (Z : High n z) where
   pub kept-le : closest m (2 ^ 11) ≤ 2 ^ 53
   kept-le = closest-top m 53 11 (Z .under)
 
-  pub pattern-lt : (1085 - z) * 4503599627370496 + closest m (2 ^ 11) < 2047 * 4503599627370496
+  pub pattern-lt : (1085 - z) * 0x10_0000_0000_0000 + closest m (2 ^ 11) < 2047 * 0x10_0000_0000_0000
   pattern-lt = go (1085 - z) (closest m (2 ^ 11)) less kept-le
     where
       less : 1085 - z ≤ 1085
       less = omega arith
 
-      go : (k q : ℕ) → k ≤ 1085 → q ≤ 2 ^ 53 → k * 4503599627370496 + q < 2047 * 4503599627370496
+      go : (k q : ℕ) → k ≤ 1085 → q ≤ 2 ^ 53 → k * 0x10_0000_0000_0000 + q < 2047 * 0x10_0000_0000_0000
       go k q a b = omega arith
 
-  pub is-float : ofBits binary64 ((1085 - z) * 4503599627370496 + closest m (2 ^ 11)) ≡ ofInt binary64 (pos n)
+  pub is-float : ofBits binary64 ((1085 - z) * 0x10_0000_0000_0000 + closest m (2 ^ 11)) ≡ ofInt binary64 (pos n)
   unfolding ofInt
-  is-float = sym (shifted-bits binary64 false n 1 m 11 (1085 - z) (zero-lt-suc 0) e (Z .under) (λ _. Z .over) pattern-lt ∙ ap (ofBits binary64) (zero-add ((1085 - z) * 4503599627370496 + closest m (2 ^ 11))))
+  is-float = sym (shifted-bits binary64 false n 1 m 11 (1085 - z) (zero-lt-suc 0) e (Z .under) (λ _. Z .over) pattern-lt ∙ ap (ofBits binary64) (zero-add ((1085 - z) * 0x10_0000_0000_0000 + closest m (2 ^ 11))))
 
 pub zero-float : (n : ℕ) → n ≡ 0 → ofBits binary64 0 ≡ ofInt binary64 (pos n)
 unfolding ofBits ofInt

@@ -14,7 +14,8 @@ use Rattle.laws.specs.FloatPack.{shifted-bits, shifted-min, closest-top}
 use Rattle.laws.specs.FloatParts.{field, digitsOf, powerOf, digits-lt, digits-some}
 use Rattle.patterns.specs.Shift.{Cmp, cmp}
 use Rattle.numbers.specs.Fractions.{rare}
-use Rattle.numbers.specs.Laws.{or-false, from-false}
+use Rattle.laws.specs.Branches.{or-false}
+use Rattle.numbers.specs.Laws.{from-false}
 
 -- d, moved up so that its highest digit stands at place 62
 pub record Norm (d z : ℕ) : Type 0 where
@@ -64,7 +65,12 @@ norm d h = go (eq-zero-or-pos d)
 -- ---- the powers of two on both sides
 same-power : (d a b c z k sh : ℕ) → a + (b + sh) ≡ z + (c + k) → d * 2 ^ a * 2 ^ b * 2 ^ sh ≡ d * 2 ^ z * (2 ^ c * 2 ^ k)
 same-power d a b c z k sh e =
-    mul-assoc (d * 2 ^ a) (2 ^ b) (2 ^ sh) ∙ ap (λ (x : ℕ). d * 2 ^ a * x) (sym (pow-add 2 b sh)) ∙ mul-assoc d (2 ^ a) (2 ^ (b + sh)) ∙ ap (λ (x : ℕ). d * x) (sym (pow-add 2 a (b + sh)) ∙ ap (λ (x : ℕ). 2 ^ x) e ∙ pow-add 2 z (c + k)) ∙ sym (mul-assoc d (2 ^ z) (2 ^ (c + k))) ∙ ap (λ (x : ℕ). d * 2 ^ z * x) (pow-add 2 c k)
+    mul-assoc (d * 2 ^ a) (2 ^ b) (2 ^ sh)
+    ∙ ap (λ (x : ℕ). d * 2 ^ a * x) (sym (pow-add 2 b sh))
+    ∙ mul-assoc d (2 ^ a) (2 ^ (b + sh))
+    ∙ ap (λ (x : ℕ). d * x) (sym (pow-add 2 a (b + sh)) ∙ ap (λ (x : ℕ). 2 ^ x) e ∙ pow-add 2 z (c + k))
+    ∙ sym (mul-assoc d (2 ^ z) (2 ^ (c + k)))
+    ∙ ap (λ (x : ℕ). d * 2 ^ z * x) (pow-add 2 c k)
 
 module _ (d e z : ℕ) (D : d < 2 ^ 53) (lead : 0 < e → 2 ^ 52 ≤ d) (N : Norm d z) where
   powers : (k sh : ℕ) → k ≡ e - (z + 885) → sh ≡ k + z + 924 - e → e + (149 + sh) ≡ z - 1 + (1074 + k)
@@ -86,7 +92,7 @@ module _ (d e z : ℕ) (D : d < 2 ^ 53) (lead : 0 < e → 2 ^ 52 ≤ d) (N : Nor
   above h = omega arith
 
   pub narrowed : (s : Bool) (k sh : ℕ) → k ≡ e - (z + 885) → sh ≡ k + z + 924 - e
-      → round binary32 s (d * 2 ^ e) (2 ^ 1074) ≡ ofBits binary32 (cond s 2147483648 0 + min (k * 8388608 + closest (d * 2 ^ (z - 1)) (2 ^ sh)) 2139095040)
+      → round binary32 s (d * 2 ^ e) (2 ^ 1074) ≡ ofBits binary32 (cond s 0x8000_0000 0 + min (k * 8388608 + closest (d * 2 ^ (z - 1)) (2 ^ sh)) 0x7f80_0000)
   narrowed s k sh a b =
       shifted-min binary32 s (d * 2 ^ e) (2 ^ 1074) (d * 2 ^ (z - 1)) sh k (pow-pos 1074)
       (same-power d e 149 1074 (z - 1) k sh (powers k sh a b))
@@ -97,7 +103,7 @@ module _ (d e z : ℕ) (D : d < 2 ^ 53) (lead : 0 < e → 2 ^ 52 ≤ d) (N : Nor
   kept-le k sh a b = closest-top (d * 2 ^ (z - 1)) 24 sh (lt-of-lt-of-le (N .under) (pow-mono (wide-enough sh (shift-ge k sh a b))))
 
 -- the sign's bit and the pattern fit a `u32`
-pub pattern-lt : (s : Bool) (p : ℕ) → p ≤ 2139095040 → cond s 2147483648 0 + p < 2 ^ 32
+pub pattern-lt : (s : Bool) (p : ℕ) → p ≤ 0x7f80_0000 → cond s 0x8000_0000 0 + p < 2 ^ 32
 pattern-lt true p h = omega arith
 pattern-lt false p h = omega arith
 
@@ -106,25 +112,25 @@ min-le a b = omega arith
 
 -- ---- the everyday case
 -- n / 2 ^ 29 to the nearest, a tie to the even one, by adding before the division
-pub rounded-in-place : (n : ℕ) → (n + 268435455 + n / 536870912 % 2) / 536870912 ≡ closest n (2 ^ 29)
-rounded-in-place n = go (cmp (n % 536870912 * 2) 536870912)
+pub rounded-in-place : (n : ℕ) → (n + 0xfff_ffff + n / 0x2000_0000 % 2) / 0x2000_0000 ≡ closest n (2 ^ 29)
+rounded-in-place n = go (cmp (n % 0x2000_0000 * 2) 0x2000_0000)
   where
-    go : Cmp (compare (n % 536870912 * 2) 536870912) (n % 536870912 * 2) 536870912 → (n + 268435455 + n / 536870912 % 2) / 536870912 ≡ nearest (n / 536870912) (compare (n % 536870912 * 2) 536870912)
-    go = by (compare (n % 536870912 * 2) 536870912)
+    go : Cmp (compare (n % 0x2000_0000 * 2) 0x2000_0000) (n % 0x2000_0000 * 2) 0x2000_0000 → (n + 0xfff_ffff + n / 0x2000_0000 % 2) / 0x2000_0000 ≡ nearest (n / 0x2000_0000) (compare (n % 0x2000_0000 * 2) 0x2000_0000)
+    go = by (compare (n % 0x2000_0000 * 2) 0x2000_0000)
       where
-        by : (o : Ordering) → Cmp o (n % 536870912 * 2) 536870912 → (n + 268435455 + n / 536870912 % 2) / 536870912 ≡ nearest (n / 536870912) o
+        by : (o : Ordering) → Cmp o (n % 0x2000_0000 * 2) 0x2000_0000 → (n + 0xfff_ffff + n / 0x2000_0000 % 2) / 0x2000_0000 ≡ nearest (n / 0x2000_0000) o
         by Ordering·lt l = omega arith
         by Ordering·eq l = omega arith
         by Ordering·gt l = omega arith
 
 -- a multiple of 2 ^ 52 more is a multiple of 2 ^ 23 more
-moved-up : (k d : ℕ) → closest (k * 4503599627370496 + d) (2 ^ 29) ≡ k * 8388608 + closest d (2 ^ 29)
+moved-up : (k d : ℕ) → closest (k * 0x10_0000_0000_0000 + d) (2 ^ 29) ≡ k * 8388608 + closest d (2 ^ 29)
 moved-up k d =
-    let q : (k * 4503599627370496 + d) / 536870912 ≡ k * 8388608 + d / 536870912 = omega arith in
-    let r : (k * 4503599627370496 + d) % 536870912 ≡ d % 536870912 = omega arith in
-    ap (λ (x : ℕ). nearest x (compare ((k * 4503599627370496 + d) % 536870912 * 2) 536870912)) q
-    ∙ ap (λ (x : ℕ). nearest (k * 8388608 + d / 536870912) (compare (x * 2) 536870912)) r
-    ∙ up (d / 536870912) (compare (d % 536870912 * 2) 536870912)
+    let q : (k * 0x10_0000_0000_0000 + d) / 0x2000_0000 ≡ k * 8388608 + d / 0x2000_0000 = omega arith in
+    let r : (k * 0x10_0000_0000_0000 + d) % 0x2000_0000 ≡ d % 0x2000_0000 = omega arith in
+    ap (λ (x : ℕ). nearest x (compare ((k * 0x10_0000_0000_0000 + d) % 0x2000_0000 * 2) 0x2000_0000)) q
+    ∙ ap (λ (x : ℕ). nearest (k * 8388608 + d / 0x2000_0000) (compare (x * 2) 0x2000_0000)) r
+    ∙ up (d / 0x2000_0000) (compare (d % 0x2000_0000 * 2) 0x2000_0000)
   where
     up : (q : ℕ) (o : Ordering) → nearest (k * 8388608 + q) o ≡ k * 8388608 + nearest q o
     up q Ordering·lt = refl
@@ -133,8 +139,8 @@ moved-up k d =
 
 -- what the tests leave
 pub record Everyday (b : ℕ) : Type 0 where
-  pub least : 0x3810000000000000 ≤ b % 9223372036854775808
-  pub most : b % 9223372036854775808 < 0x47effffff0000000
+  pub least : 0x3810000000000000 ≤ b % 0x8000_0000_0000_0000
+  pub most : b % 0x8000_0000_0000_0000 < 0x47effffff0000000
 
 pub everyday : (b : ℕ) → rare (b % 2 ^ 63) ≡ false → Everyday b
 everyday b h =
@@ -147,12 +153,12 @@ everyday b h =
 
 module _ (b : ℕ) (E : Everyday b) where
   abbrev moved : ℕ
-  moved = b % 9223372036854775808 - 4035225266123964416
+  moved = b % 0x8000_0000_0000_0000 - 0x3800_0000_0000_0000
 
   abbrev pub kept : ℕ
-  kept = (moved + 268435455 + moved / 536870912 % 2) / 536870912
+  kept = (moved + 0xfff_ffff + moved / 0x2000_0000 % 2) / 0x2000_0000
 
-  pub kept-lt : kept < 2139095040
+  pub kept-lt : kept < 0x7f80_0000
   kept-lt = let l = E .least in let h = E .most in omega arith
 
   -- the exponent's field less 897, and the digits
@@ -162,14 +168,14 @@ module _ (b : ℕ) (E : Everyday b) where
   some : field binary64 b ≡ 0 → ⊥
   some e = let l = E .least in omega arith
 
-  digits-are : digitsOf binary64 b ≡ b % 4503599627370496 + 4503599627370496
+  digits-are : digitsOf binary64 b ≡ b % 0x10_0000_0000_0000 + 0x10_0000_0000_0000
   digits-are = sym (digits-some binary64 b some)
 
-  moved-is : moved ≡ over * 4503599627370496 + digitsOf binary64 b
-  moved-is = let l = E .least in split b l ∙ ap (λ (x : ℕ). over * 4503599627370496 + x) (sym digits-are)
+  moved-is : moved ≡ over * 0x10_0000_0000_0000 + digitsOf binary64 b
+  moved-is = let l = E .least in split b l ∙ ap (λ (x : ℕ). over * 0x10_0000_0000_0000 + x) (sym digits-are)
     where
-      split : (b : ℕ) → 0x3810000000000000 ≤ b % 9223372036854775808
-          → b % 9223372036854775808 - 4035225266123964416 ≡ (b % 9223372036854775808 / 4503599627370496 - 897) * 4503599627370496 + (b % 4503599627370496 + 4503599627370496)
+      split : (b : ℕ) → 0x3810000000000000 ≤ b % 0x8000_0000_0000_0000
+          → b % 0x8000_0000_0000_0000 - 0x3800_0000_0000_0000 ≡ (b % 0x8000_0000_0000_0000 / 0x10_0000_0000_0000 - 897) * 0x10_0000_0000_0000 + (b % 0x10_0000_0000_0000 + 0x10_0000_0000_0000)
       split b l = omega arith
 
   kept-is : kept ≡ over * 8388608 + closest (digitsOf binary64 b) (2 ^ 29)
@@ -178,24 +184,24 @@ module _ (b : ℕ) (E : Everyday b) where
   powers-are : powerOf binary64 b + (149 + 29) ≡ 0 + (1074 + over)
   powers-are = let l = E .least in go b l
     where
-      go : (b : ℕ) → 0x3810000000000000 ≤ b % 9223372036854775808 → b % 9223372036854775808 / 4503599627370496 - 1 + (149 + 29) ≡ 0 + (1074 + (b % 9223372036854775808 / 4503599627370496 - 897))
+      go : (b : ℕ) → 0x3810000000000000 ≤ b % 0x8000_0000_0000_0000 → b % 0x8000_0000_0000_0000 / 0x10_0000_0000_0000 - 1 + (149 + 29) ≡ 0 + (1074 + (b % 0x8000_0000_0000_0000 / 0x10_0000_0000_0000 - 897))
       go b l = omega arith
 
   high-digit : 2 ^ 52 ≤ digitsOf binary64 b
   high-digit = subst (λ (x : ℕ). 2 ^ 52 ≤ x) (sym digits-are) (omega arith)
 
-  pub everyday-is : (s : Bool) → ofBits binary32 (cond s 2147483648 0 + kept) ≡ round binary32 s (digitsOf binary64 b * 2 ^ powerOf binary64 b) (2 ^ 1074)
+  pub everyday-is : (s : Bool) → ofBits binary32 (cond s 0x8000_0000 0 + kept) ≡ round binary32 s (digitsOf binary64 b * 2 ^ powerOf binary64 b) (2 ^ 1074)
   everyday-is s =
       let d = digitsOf binary64 b in
-      ap (λ (x : ℕ). ofBits binary32 (cond s 2147483648 0 + x)) kept-is
+      ap (λ (x : ℕ). ofBits binary32 (cond s 0x8000_0000 0 + x)) kept-is
       ∙ sym (shifted-bits binary32 s (d * 2 ^ powerOf binary64 b) (2 ^ 1074) d 29 over (pow-pos 1074)
       (same-power d (powerOf binary64 b) 149 1074 0 over 29 powers-are ∙ ap (λ (x : ℕ). x * (2 ^ 1074 * 2 ^ over)) (mul-one d))
-      (digits-lt binary64 b) (λ _. high-digit) (subst (λ (x : ℕ). x < 2139095040) kept-is kept-lt))
+      (digits-lt binary64 b) (λ _. high-digit) (subst (λ (x : ℕ). x < 0x7f80_0000) kept-is kept-lt))
 
 -- the highest bit, as a number
-pub sign-bit : (b : ℕ) → b < 2 ^ 64 → b / 9223372036854775808 * 2147483648 ≡ cond (leb 9223372036854775808 b) 2147483648 0
-sign-bit b h = go (leb 9223372036854775808 b) (leb→le 9223372036854775808 b) (nleb→lt 9223372036854775808 b)
+pub sign-bit : (b : ℕ) → b < 2 ^ 64 → b / 0x8000_0000_0000_0000 * 0x8000_0000 ≡ cond (leb 0x8000_0000_0000_0000 b) 0x8000_0000 0
+sign-bit b h = go (leb 0x8000_0000_0000_0000 b) (leb→le 0x8000_0000_0000_0000 b) (nleb→lt 0x8000_0000_0000_0000 b)
   where
-    go : (t : Bool) → (T t → 9223372036854775808 ≤ b) → (T (not t) → b < 9223372036854775808) → b / 9223372036854775808 * 2147483648 ≡ cond t 2147483648 0
+    go : (t : Bool) → (T t → 0x8000_0000_0000_0000 ≤ b) → (T (not t) → b < 0x8000_0000_0000_0000) → b / 0x8000_0000_0000_0000 * 0x8000_0000 ≡ cond t 0x8000_0000 0
     go true y n = let l = y tt in omega arith
     go false y n = let l = n tt in omega arith

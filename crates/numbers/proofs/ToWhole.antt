@@ -195,7 +195,8 @@ whole-small g R f x F h l =
     let d = digitsOf f b in
     let p = powerOf f b in
     sym (whole-value g R f x s (d * 2 ^ p) (2 ^ low f) (pow-pos (low f)) (float-value f x F h)
-    ∙ ap (λ (y : ℕ). round f s y 1) (R .alike s (d * 2 ^ p) (2 ^ low f) d (2 ^ (low f - p)) (pow-pos (low f)) (pow-pos (low f - p)) (mul-assoc d (2 ^ p) (2 ^ (low f - p)) ∙ ap (λ (y : ℕ). d * y) (mul-comm (2 ^ p) (2 ^ (low f - p)) ∙ sym (pow-add 2 (low f - p) p) ∙ ap (λ (y : ℕ). 2 ^ y) (sym (less-back (low f) p (le-of-lt l)))))))
+    ∙ ap (λ (y : ℕ). round f s y 1) (R .alike s (d * 2 ^ p) (2 ^ low f) d (2 ^ (low f - p)) (pow-pos (low f)) (pow-pos (low f - p))
+    (mul-assoc d (2 ^ p) (2 ^ (low f - p)) ∙ ap (λ (y : ℕ). d * y) (mul-comm (2 ^ p) (2 ^ (low f - p)) ∙ sym (pow-add 2 (low f - p) p) ∙ ap (λ (y : ℕ). 2 ^ y) (sym (less-back (low f) p (le-of-lt l)))))))
 
 -- a power below the point's is no infinity's
 pub small-field : (f : Format) (b : ℕ) → powerOf f b < low f → field f b < ones f

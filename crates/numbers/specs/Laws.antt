@@ -22,10 +22,6 @@ pub from-false : (b : Bool) → b ≡ false → T (not b)
 from-false true e = absurd (true≢false e)
 from-false false e = tt
 
-pub or-false : (a b : Bool) → (a || b) ≡ false → (a ≡ false) × (b ≡ false)
-or-false true b e = absurd (true≢false e)
-or-false false b e = (refl, e)
-
 level-self : (s : Bool) (a : ℕ) → (eqb a a && (Bool·beq s s || eqb a 0)) ≡ true
 level-self true a = ap (λ (b : Bool). b && true) (is-true (eqb a a) (eqb-refl a))
 level-self false a = ap (λ (b : Bool). b && true) (is-true (eqb a a) (eqb-refl a))

@@ -11,6 +11,11 @@ use mathlib.Core.Bool.{false}
 pub data Exact : Type 0 where
   ratio root : ℕ → ℕ → Exact
 
+-- the divisor is above 0
+abbrev pub Proper : Exact → Type 0
+Proper (ratio a b) = 0 < b
+Proper (root a b) = 0 < b
+
 -- t halves of f's smallest value are at most the exact number, and at least it
 abbrev pub AtMost : Format → ℕ → Exact → Type 0
 AtMost f t (ratio a b) = t * b ≤ a * 2 ^ low f * 2

@@ -3,7 +3,8 @@
 use mathlib.Core.Path.{_≡_, refl, sym, ap, _∙_, subst}
 use mathlib.Core.Logic.{_⊎_, inl, inr}
 use Prim.Native.Nat.{ℕ, zero, suc, _+_, _-_, _*_, _/_, _%_, _^_, _≤_, _<_, compare, Ordering, Ordering·lt, Ordering·eq, Ordering·gt}
-use native.Mathlib.Nat.{le-trans, le-of-eq, le-of-lt, le-refl, lt-irrefl, lt-of-lt-of-le, lt-of-le-of-lt, lt-of-not-le, not-le-of-lt, mul-le-mul, mul-le-mul-right, mul-le-mul-left, mul-lt-mul-of-pos-right, le-of-mul-le-mul-right, lt-of-mul-lt-mul-right, mul-assoc, mul-pos, mul-div-cancel, div-add-mod', mod-lt, le-div-iff-mul-le, div-lt-iff-lt-mul, eq-or-lt-of-le, zero-lt-suc, sub-add-cancel, pow-succ', zero-add}
+use native.Mathlib.Nat.{le-trans, le-of-eq, le-of-lt, le-refl, lt-irrefl, lt-of-lt-of-le, lt-of-le-of-lt, lt-of-not-le, not-le-of-lt, mul-le-mul, mul-le-mul-right, mul-le-mul-left, mul-lt-mul-of-pos-right, le-of-mul-le-mul-right}
+use native.Mathlib.Nat.{lt-of-mul-lt-mul-right, mul-assoc, mul-pos, mul-div-cancel, div-add-mod', mod-lt, le-div-iff-mul-le, div-lt-iff-lt-mul, eq-or-lt-of-le, zero-lt-suc, sub-add-cancel, pow-succ', zero-add}
 use native.Mathlib.Omega.{arith}
 use mathlib.Core.Bool.{Bool, true, false, not, cond}
 use lib.IntN.{ℤ}
@@ -17,7 +18,7 @@ use lib.Ieee.Bits.{toBits-ofBits, nanBits-is, is-true, is-false}
 use lib.Ieee.Exact.{HasValue, units-val}
 use lib.Ieee.Nearest.{closest}
 use lib.Ieee.Order.{drop, kept}
-use Rattle.laws.specs.FloatRounding.{units-signed, round-neg}
+use Rattle.laws.specs.FloatRounding.{neg-neg, units-signed, round-neg}
 use Rattle.laws.specs.FloatParts.{field, digitsOf, powerOf, finite-field, float-value, digits-lt}
 use Rattle.laws.specs.FloatPack.{packed, packed-inf, pattern-under, units-fits, no-nan-bits, value-unique}
 use Rattle.laws.specs.FloatValues.{no-inf, no-nan-fin}
@@ -29,15 +30,10 @@ use Rattle.numbers.specs.Faithful.{sqrt-is}
 use Rattle.numbers.specs.Root.{isqrt, closestRoot, roundRoot, sqrtOf}
 use Rattle.numbers.specs.Roots.{isqrt-is, closestRoot-is}
 use Rattle.numbers.specs.RootOrder.{dropR, keptR, kept-le, kept-ge, keptR-le, keptR-ge, all-in-use, roundRoot-is}
-use Rattle.numbers.specs.Nearest.{Exact, ratio, root, AtMost, AtLeast, unitsOf, Value, Nearest}
+use Rattle.numbers.specs.Nearest.{Exact, ratio, root, Proper, AtMost, AtLeast, unitsOf, Value, Nearest}
 use Rattle.numbers.specs.Halves.{Near, nearest-near, multiple-below, multiple-above, multiple-tie, low-below, low-not-above, low-no-tie}
 
 -- ---- an exact number against whole numbers of halves
--- its divisor is above 0
-abbrev pub Proper : Exact → Type 0
-Proper (ratio a b) = 0 < b
-Proper (root a b) = 0 < b
-
 pub at-most-down : (f : Format) (x : Exact) (s t : ℕ) → s ≤ t → AtMost f t x → AtMost f s x
 at-most-down f (ratio a b) s t h k = le-trans (mul-le-mul-right b h) k
 at-most-down f (root a b) s t h k = le-trans (mul-le-mul-right b (mul-le-mul h h)) k
@@ -604,13 +600,6 @@ convert-neg f nan = refl
 convert-neg f (inf s) = refl
 convert-neg f (fin false m e) = round-neg f (m * up e) (down e)
 convert-neg f (fin true m e) = sym (ap neg (round-neg f (m * up e) (down e)) ∙ neg-neg (round f false (m * up e) (down e)))
-  where
-    neg-neg : (x : Float) → neg (neg x) ≡ x
-    neg-neg nan = unfold neg in refl
-    neg-neg (inf true) = unfold neg in refl
-    neg-neg (inf false) = unfold neg in refl
-    neg-neg (fin true m e) = unfold neg in refl
-    neg-neg (fin false m e) = unfold neg in refl
 
 pub sqrt-nearest : (f : Format) (x : Float) → T (positive x) → Nearest f (root (num x) (den x)) (sqrtOf f x)
 sqrt-nearest f x h = subst (Nearest f (root (num x) (den x))) (sym (sqrt-is f x h)) (root-nearest f (num x) (den x) (den-pos x))

@@ -2,7 +2,8 @@
 use mathlib.Core.Path.{_≡_, refl, sym, ap, _∙_, subst}
 use mathlib.Core.Logic.{_⊎_, inl, inr}
 use Prim.Native.Nat.{ℕ, zero, suc, _+_, _-_, _*_, _/_, _%_, _^_, _≤_, _<_, zero-le, compare, Ordering, Ordering·lt, Ordering·eq, Ordering·gt}
-use native.Mathlib.Nat.{zero-add, le-refl, le-trans, le-of-eq, lt-of-lt-of-le, lt-of-le-of-lt, lt-of-not-le, not-le-of-lt, le-antisymm, zero-lt-suc, mul-le-mul, mul-le-mul-right, mul-lt-mul-of-pos-right, le-of-mul-le-mul-right, lt-of-mul-lt-mul-right, mul-pos, mul-assoc, mul-right-comm, div-lt-iff-lt-mul, le-div-iff-mul-le, pow-suc}
+use native.Mathlib.Nat.{zero-add, le-refl, le-trans, le-of-eq, lt-of-lt-of-le, lt-of-le-of-lt, lt-of-not-le, not-le-of-lt, le-antisymm, zero-lt-suc, mul-le-mul}
+use native.Mathlib.Nat.{mul-le-mul-right, mul-lt-mul-of-pos-right, le-of-mul-le-mul-right, lt-of-mul-lt-mul-right, mul-pos, mul-assoc, mul-right-comm, div-lt-iff-lt-mul, le-div-iff-mul-le, pow-suc}
 use native.Mathlib.Omega.{arith}
 use mathlib.Core.Bool.{Bool, true, false, not, cond}
 use lib.Dec.{T, leb, leb→le, nleb→lt, lit≤}
@@ -30,7 +31,11 @@ quarter-le n m h = omega arith
 rootIn-is : (k n : ℕ) → n < 4 ^ k → Root (rootIn k n) n
 unfolding rootIn
 rootIn-is zero n h = record { least = zero-le; most = h }
-rootIn-is (suc k) n h = go (rootIn k (n / 4)) (rootIn-is k (n / 4) (div-lt-iff-lt-mul (zero-lt-suc 3) .1 (subst (λ (x : ℕ). n < x) (pow-suc 4 k) h))) (leb ((2 * rootIn k (n / 4) + 1) * (2 * rootIn k (n / 4) + 1)) n) (leb→le ((2 * rootIn k (n / 4) + 1) * (2 * rootIn k (n / 4) + 1)) n) (nleb→lt ((2 * rootIn k (n / 4) + 1) * (2 * rootIn k (n / 4) + 1)) n)
+rootIn-is (suc k) n h =
+    go (rootIn k (n / 4)) (rootIn-is k (n / 4) (div-lt-iff-lt-mul (zero-lt-suc 3) .1 (subst (λ (x : ℕ). n < x) (pow-suc 4 k) h)))
+    (leb ((2 * rootIn k (n / 4) + 1) * (2 * rootIn k (n / 4) + 1)) n)
+    (leb→le ((2 * rootIn k (n / 4) + 1) * (2 * rootIn k (n / 4) + 1)) n)
+    (nleb→lt ((2 * rootIn k (n / 4) + 1) * (2 * rootIn k (n / 4) + 1)) n)
   where
     go : (r : ℕ) → Root r (n / 4) → (b : Bool) → (T b → (2 * r + 1) * (2 * r + 1) ≤ n) → (T (not b) → n < (2 * r + 1) * (2 * r + 1)) → Root (cond b (2 * r + 1) (2 * r)) n
     go r R true l g = record { least = l tt; most = lt-of-lt-of-le (quarter-lt n ((r + 1) * (r + 1)) (R .most)) (le-of-eq (four r)) }
@@ -292,14 +297,18 @@ step n i q rem rest g G I = go (leb (q * 4 + 1) (rem * 4 + rest / 2 ^ 62)) (leb�
     less = omega arith
 
     go : (b : Bool) → (T b → q * 4 + 1 ≤ rem * 4 + rest / 2 ^ 62) → (T (not b) → rem * 4 + rest / 2 ^ 62 < q * 4 + 1) → g ≡ cond b 1 0 → Digits n (i + 1) (q * 2 + g) (rem * 4 + rest / 2 ^ 62 - g * (q * 4 + 1)) (rest % 2 ^ 62 * 4)
-    go true h k e = subst (λ (x : ℕ). Digits n (i + 1) (q * 2 + x) (rem * 4 + rest / 2 ^ 62 - x * (q * 4 + 1)) (rest % 2 ^ 62 * 4)) (sym e) (record { sum = down ∙ ap (λ (x : ℕ). x * 2 ^ 64 + rest % 2 ^ 62 * 4) (taken (rem * 4 + rest / 2 ^ 62) (h tt)); left = bound (I .left) (I .rest-lt) (h tt); rest-lt = omega arith; small = power (I .small) })
+    go true h k e =
+        subst (λ (x : ℕ). Digits n (i + 1) (q * 2 + x) (rem * 4 + rest / 2 ^ 62 - x * (q * 4 + 1)) (rest % 2 ^ 62 * 4)) (sym e)
+        (record { sum = down ∙ ap (λ (x : ℕ). x * 2 ^ 64 + rest % 2 ^ 62 * 4) (taken (rem * 4 + rest / 2 ^ 62) (h tt)); left = bound (I .left) (I .rest-lt) (h tt); rest-lt = omega arith; small = power (I .small) })
       where
         taken : (a : ℕ) → q * 4 + 1 ≤ a → 4 * (q * q) + a ≡ (q * 2 + 1) * (q * 2 + 1) + (a - 1 * (q * 4 + 1))
         taken a h = omega arith
 
         bound : rem ≤ 2 * q → rest < 2 ^ 64 → q * 4 + 1 ≤ rem * 4 + rest / 2 ^ 62 → rem * 4 + rest / 2 ^ 62 - 1 * (q * 4 + 1) ≤ 2 * (q * 2 + 1)
         bound a b c = omega arith
-    go false h k e = subst (λ (x : ℕ). Digits n (i + 1) (q * 2 + x) (rem * 4 + rest / 2 ^ 62 - x * (q * 4 + 1)) (rest % 2 ^ 62 * 4)) (sym e) (record { sum = down ∙ ap (λ (x : ℕ). x * 2 ^ 64 + rest % 2 ^ 62 * 4) (kept (rem * 4 + rest / 2 ^ 62)); left = bound (rem * 4 + rest / 2 ^ 62) (k tt); rest-lt = omega arith; small = lt-of-le-of-lt less (power (I .small)) })
+    go false h k e =
+        subst (λ (x : ℕ). Digits n (i + 1) (q * 2 + x) (rem * 4 + rest / 2 ^ 62 - x * (q * 4 + 1)) (rest % 2 ^ 62 * 4)) (sym e)
+        (record { sum = down ∙ ap (λ (x : ℕ). x * 2 ^ 64 + rest % 2 ^ 62 * 4) (kept (rem * 4 + rest / 2 ^ 62)); left = bound (rem * 4 + rest / 2 ^ 62) (k tt); rest-lt = omega arith; small = lt-of-le-of-lt less (power (I .small)) })
       where
         kept : (a : ℕ) → 4 * (q * q) + a ≡ (q * 2 + 0) * (q * 2 + 0) + (a - 0 * (q * 4 + 1))
         kept a = omega arith

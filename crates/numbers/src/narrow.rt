@@ -23,7 +23,7 @@ pub fn widen(x: f32) -> f64
 }
 
 fn sign32(s: bool) -> u32
-    ensures { λ r. ⌜ r ≡ cond s 2147483648 0 ⌝ }
+    ensures { λ r. ⌜ r ≡ cond s 0x8000_0000 0 ⌝ }
 {
     if s { 0x8000_0000 } else { 0 }
 }

@@ -228,7 +228,7 @@ lines-step ds rs i w u v e f = rw add-one (put-then (linesOf ds rs i) (lineOf (g
 pub lines-end : (ds rs : List ℕ) (i n : ℕ) (w u : Written) → u ≡ put (linesOf ds rs i) w → i ≤ n → n ≤ i → u ≡ put (linesOf ds rs n) w
 lines-end ds rs i n w u e le ge = let h : i ≡ n = omega arith in e ∙ ap (λ (k : ℕ). put (linesOf ds rs k) w) h
 
--- ---- document 01's closing lines of a recording with no samples, and a full line
+-- ---- the closing lines of a recording with no samples, and a full line
 abbrev pub nothing : Totals
 nothing = record { symbols = 0; locked = 0; lock = false; overload = 0 }
 

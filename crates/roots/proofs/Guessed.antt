@@ -53,25 +53,25 @@ nearest-half n q lo hi = go (leb (q * q) (n * 2 ^ 42)) (leb→le (q * q) (n * 2 
 -- ---- by the halves of q, and what each step leaves
 module _ (n q first last : ℕ) where
   abbrev h : ℕ
-  h = q / 134217728
+  h = q / 0x800_0000
 
   abbrev l : ℕ
-  l = q % 134217728
+  l = q % 0x800_0000
 
-  both : first + h * h ≡ n / 4096 + 1 → last + h * l * 2 ≡ first * 134217728 + n % 4096 * 32768 → last * 134217728 + q * q ≡ n * 2 ^ 42 + 2 ^ 54 + l * l
-  both a b = ap (λ (x : ℕ). last * 134217728 + x) (ap (λ (x : ℕ). x * x) (halves q) ∙ square h l) ∙ sides n first last (h * h) (h * l) (l * l) a b
+  both : first + h * h ≡ n / 4096 + 1 → last + h * l * 2 ≡ first * 0x800_0000 + n % 4096 * 32768 → last * 0x800_0000 + q * q ≡ n * 2 ^ 42 + 2 ^ 54 + l * l
+  both a b = ap (λ (x : ℕ). last * 0x800_0000 + x) (ap (λ (x : ℕ). x * x) (halves q) ∙ square h l) ∙ sides n first last (h * h) (h * l) (l * l) a b
     where
-      halves : (q : ℕ) → q ≡ q / 134217728 * 134217728 + q % 134217728
+      halves : (q : ℕ) → q ≡ q / 0x800_0000 * 0x800_0000 + q % 0x800_0000
       halves q = omega arith
 
-      square : (h l : ℕ) → (h * 134217728 + l) * (h * 134217728 + l) ≡ h * h * 2 ^ 54 + h * l * 2 ^ 28 + l * l
+      square : (h l : ℕ) → (h * 0x800_0000 + l) * (h * 0x800_0000 + l) ≡ h * h * 2 ^ 54 + h * l * 2 ^ 28 + l * l
       square h l = omega arith
 
-      sides : (n f m a x c : ℕ) → f + a ≡ n / 4096 + 1 → m + x * 2 ≡ f * 134217728 + n % 4096 * 32768 → m * 134217728 + (a * 2 ^ 54 + x * 2 ^ 28 + c) ≡ n * 2 ^ 42 + 2 ^ 54 + c
+      sides : (n f m a x c : ℕ) → f + a ≡ n / 4096 + 1 → m + x * 2 ≡ f * 0x800_0000 + n % 4096 * 32768 → m * 0x800_0000 + (a * 2 ^ 54 + x * 2 ^ 28 + c) ≡ n * 2 ^ 42 + 2 ^ 54 + c
       sides n f m a x c k e = omega arith
 
-  pub seen-half : first + h * h ≡ n / 4096 + 1 → last + h * l * 2 ≡ first * 134217728 + n % 4096 * 32768 → l * l + 2 ^ 54 < last * 134217728 + q → last * 134217728 ≤ l * l + 2 ^ 54 + q → HalfRoot n q
-  seen-half a b lo hi = nearest-half n q (under (last * 134217728) (q * q) (n * 2 ^ 42) (l * l) (both a b) lo) (over (last * 134217728) (q * q) (n * 2 ^ 42) (l * l) (both a b) hi)
+  pub seen-half : first + h * h ≡ n / 4096 + 1 → last + h * l * 2 ≡ first * 0x800_0000 + n % 4096 * 32768 → l * l + 2 ^ 54 < last * 0x800_0000 + q → last * 0x800_0000 ≤ l * l + 2 ^ 54 + q → HalfRoot n q
+  seen-half a b lo hi = nearest-half n q (under (last * 0x800_0000) (q * q) (n * 2 ^ 42) (l * l) (both a b) lo) (over (last * 0x800_0000) (q * q) (n * 2 ^ 42) (l * l) (both a b) hi)
     where
       under : (r s m c : ℕ) → r + s ≡ m + 2 ^ 54 + c → c + 2 ^ 54 < r + q → s < m + q
       under r s m c e k = omega arith
@@ -87,5 +87,5 @@ unwrapped r a b e h k = omega arith
 pub product-lt : (a b : ℕ) → a < 2 ^ 27 → b < 2 ^ 27 → a * b < 2 ^ 54
 product-lt a b h k = lt-of-le-of-lt (mul-le-mul (le a h) (le b k)) (lit< tt)
   where
-    le : (a : ℕ) → a < 2 ^ 27 → a ≤ 134217727
+    le : (a : ℕ) → a < 2 ^ 27 → a ≤ 0x7ff_ffff
     le a h = omega arith

@@ -85,7 +85,10 @@ same-power d p y l c t k e = all d p l c ∙ ap (λ (x : ℕ). d * 2 ^ x) e ∙ 
 
 -- a square of an odd number is odd
 pub no-tie : (d y t w : ℕ) → 65 ≤ y + t → w % 2 ≡ 1 → d * 2 ^ y * 2 ^ t ≡ w * w * 2 ^ 64 → ⊥
-no-tie d y t w l o e = odd (w / 2) (ap (λ (x : ℕ). x * x) (halves w o)) (eq-of-mul-eq-mul-right (2 ^ 64) (pow-pos 64) (d * 2 ^ (y + t - 64)) (w * w) (mul-assoc d (2 ^ (y + t - 64)) (2 ^ 64) ∙ ap (λ (x : ℕ). d * x) (sym (pow-add 2 (y + t - 64) 64) ∙ ap (λ (x : ℕ). 2 ^ x) (back (y + t) l) ∙ pow-add 2 y t) ∙ sym (mul-assoc d (2 ^ y) (2 ^ t)) ∙ e))
+no-tie d y t w l o e =
+    odd (w / 2) (ap (λ (x : ℕ). x * x) (halves w o))
+    (eq-of-mul-eq-mul-right (2 ^ 64) (pow-pos 64) (d * 2 ^ (y + t - 64)) (w * w)
+    (mul-assoc d (2 ^ (y + t - 64)) (2 ^ 64) ∙ ap (λ (x : ℕ). d * x) (sym (pow-add 2 (y + t - 64) 64) ∙ ap (λ (x : ℕ). 2 ^ x) (back (y + t) l) ∙ pow-add 2 y t) ∙ sym (mul-assoc d (2 ^ y) (2 ^ t)) ∙ e))
   where
     back : (n : ℕ) → 65 ≤ n → n - 64 + 64 ≡ n
     back n h = omega arith
@@ -157,7 +160,7 @@ even-32 p z a b = omega arith
 pub bit-le : (n : ℕ) → n % 2 ≤ 1
 bit-le n = omega arith
 
-pub small-64 : (p y q : ℕ) → p ≤ 2045 → q ≤ 2 ^ 53 → (p + 1032 - y) / 2 * 4503599627370496 + q < 2047 * 4503599627370496
+pub small-64 : (p y q : ℕ) → p ≤ 2045 → q ≤ 2 ^ 53 → (p + 1032 - y) / 2 * 0x10_0000_0000_0000 + q < 2047 * 0x10_0000_0000_0000
 small-64 p y q a b = omega arith
 
 pub small-32 : (p y q : ℕ) → p ≤ 253 → q ≤ 2 ^ 24 → (p + 165 - y) / 2 * 8388608 + q < 255 * 8388608

@@ -58,16 +58,16 @@ plusZero = fin false 0 (pos 0)
 
 -- pi, pi / 2, pi / 4 and 3 pi / 4, each the nearest value of binary32
 abbrev pub pi32 : Float
-pi32 = ofBits binary32 1078530011
+pi32 = ofBits binary32 0x40490fdb  -- 3.1415927
 
 abbrev pub halfPi32 : Float
-halfPi32 = ofBits binary32 1070141403
+halfPi32 = ofBits binary32 0x3fc90fdb  -- 1.5707964
 
 abbrev pub quarterPi32 : Float
-quarterPi32 = ofBits binary32 1061752795
+quarterPi32 = ofBits binary32 0x3f490fdb  -- 0.7853982
 
 abbrev pub threeQuarterPi32 : Float
-threeQuarterPi32 = ofBits binary32 1075235812
+threeQuarterPi32 = ofBits binary32 0x4016cbe4  -- 2.3561945
 
 -- ---- the cases of `quadrantArc`
 module _ (v h : Float) where

@@ -18,8 +18,9 @@ use Rattle.laws.specs.FloatValues.{round-most, no-nan-fin}
 use Rattle.numbers.specs.Numbers.{absOf, signOf, isFinite, convert}
 use Rattle.numbers.specs.Faithful.{keeps-over}
 use Rattle.routines.specs.Circle.{one, under, withSign}
-use Rattle.routines.specs.Angle.{nought, quarterPi, halfPi, pi, factorOf, arcOf, quadrantArc, mirroredOf, arcSize, arctangentOf}
-use Rattle.routines.specs.Squares.{nonneg-finite, nonneg-signed, convert-up}
+use Rattle.routines.specs.Angle.{nought, quarterPi, halfPi, pi, factorOf, arcOf, quadrantArc, mirroredOf, arcSize, arctangentOf, A1, A2, A3, A4, A5, A6, A7, A8, A9, A10, A11, A12}
+use Rattle.laws.specs.FloatSizes.{nonneg-finite}
+use Rattle.routines.specs.Squares.{nonneg-signed, convert-up}
 use Rattle.routines.specs.AngleLaws.{plusZero, pi32, div-is, zero-least, zero-equal}
 
 -- ---- in 0..b, and with its sign clear
@@ -135,30 +136,18 @@ under-upto b c z p s i j = less-upto b c (mul binary64 z p) s (times-upto b z p 
 factor-upto : (z : Float) → Upto unit z → Upto one (factorOf z)
 unfolding factorOf ofBits fits sub le
 factor-upto z i =
-    let a12 = ofBits binary64 4556765009705845964 in
-    let a11 = ofBits binary64 4569816802593463397 in
-    let a10 = ofBits binary64 4577943560962501761 in
-    let a9 = ofBits binary64 4583309107500397411 in
-    let a8 = ofBits binary64 4586527705050058222 in
-    let a7 = ofBits binary64 4588889817341857548 in
-    let a6 = ofBits binary64 4590076314800698877 in
-    let a5 = ofBits binary64 4591188248393968904 in
-    let a4 = ofBits binary64 4592667240413647168 in
-    let a3 = ofBits binary64 4594314849555482454 in
-    let a2 = ofBits binary64 4596373774009564551 in
-    let a1 = ofBits binary64 4599676419381032306 in
-    let p11 = under-upto a12 a11 z a12 (step a12 a11 tt tt tt tt tt tt tt tt) i (record { plain = tt; most = tt }) in
-    let p10 = under-upto a11 a10 z _ (step a11 a10 tt tt tt tt tt tt tt tt) i p11 in
-    let p9 = under-upto a10 a9 z _ (step a10 a9 tt tt tt tt tt tt tt tt) i p10 in
-    let p8 = under-upto a9 a8 z _ (step a9 a8 tt tt tt tt tt tt tt tt) i p9 in
-    let p7 = under-upto a8 a7 z _ (step a8 a7 tt tt tt tt tt tt tt tt) i p8 in
-    let p6 = under-upto a7 a6 z _ (step a7 a6 tt tt tt tt tt tt tt tt) i p7 in
-    let p5 = under-upto a6 a5 z _ (step a6 a5 tt tt tt tt tt tt tt tt) i p6 in
-    let p4 = under-upto a5 a4 z _ (step a5 a4 tt tt tt tt tt tt tt tt) i p5 in
-    let p3 = under-upto a4 a3 z _ (step a4 a3 tt tt tt tt tt tt tt tt) i p4 in
-    let p2 = under-upto a3 a2 z _ (step a3 a2 tt tt tt tt tt tt tt tt) i p3 in
-    let p1 = under-upto a2 a1 z _ (step a2 a1 tt tt tt tt tt tt tt tt) i p2 in
-    under-upto a1 one z _ (step a1 one tt tt tt tt tt tt tt tt) i p1
+    let p11 = under-upto A12 A11 z A12 (step A12 A11 tt tt tt tt tt tt tt tt) i (record { plain = tt; most = tt }) in
+    let p10 = under-upto A11 A10 z _ (step A11 A10 tt tt tt tt tt tt tt tt) i p11 in
+    let p9 = under-upto A10 A9 z _ (step A10 A9 tt tt tt tt tt tt tt tt) i p10 in
+    let p8 = under-upto A9 A8 z _ (step A9 A8 tt tt tt tt tt tt tt tt) i p9 in
+    let p7 = under-upto A8 A7 z _ (step A8 A7 tt tt tt tt tt tt tt tt) i p8 in
+    let p6 = under-upto A7 A6 z _ (step A7 A6 tt tt tt tt tt tt tt tt) i p7 in
+    let p5 = under-upto A6 A5 z _ (step A6 A5 tt tt tt tt tt tt tt tt) i p6 in
+    let p4 = under-upto A5 A4 z _ (step A5 A4 tt tt tt tt tt tt tt tt) i p5 in
+    let p3 = under-upto A4 A3 z _ (step A4 A3 tt tt tt tt tt tt tt tt) i p4 in
+    let p2 = under-upto A3 A2 z _ (step A3 A2 tt tt tt tt tt tt tt tt) i p3 in
+    let p1 = under-upto A2 A1 z _ (step A2 A1 tt tt tt tt tt tt tt tt) i p2 in
+    under-upto A1 one z _ (step A1 one tt tt tt tt tt tt tt tt) i p1
 
 arc-upto : (t : Float) → Upto unit t → Upto unit (arcOf t)
 unfolding arcOf ofBits fits

@@ -8,35 +8,69 @@ use Rattle.numbers.specs.Numbers.{absOf, signOf, clampOf}
 use Rattle.routines.specs.declared.circle.SineCosine.{SineCosine}
 use Rattle.routines.specs.declared.circle.Remainder.{Remainder}
 
--- 1 / 2
 abbrev pub half : Float
-half = ofBits binary64 4602678819172646912
+half = ofBits binary64 0x3fe0000000000000  -- 0.5
 
--- 1
 abbrev pub one : Float
-one = ofBits binary64 4607182418800017408
+one = ofBits binary64 0x3ff0000000000000  -- 1
 
--- -1
 abbrev pub minusOne : Float
-minusOne = ofBits binary64 13830554455654793216
+minusOne = ofBits binary64 0xbff0000000000000  -- -1
 
--- 64: beyond it there is no answer
+-- beyond it there is no answer
 abbrev pub farthest : Float
-farthest = ofBits binary64 4634204016564240384
+farthest = ofBits binary64 0x4050000000000000  -- 64
 
 -- 2 / pi
 abbrev pub twoOverPi : Float
-twoOverPi = ofBits binary64 4603909380684499075
+twoOverPi = ofBits binary64 0x3fe45f306dc9c883  -- 0.6366197723675814
 
 -- pi / 2 in parts of 33, 33 and 53 bits
 abbrev pub halfPiHigh : Float
-halfPiHigh = ofBits binary64 4609753056924401664
+halfPiHigh = ofBits binary64 0x3ff921fb54400000  -- 1.5707963267341256
 
 abbrev pub halfPiMiddle : Float
-halfPiMiddle = ofBits binary64 4454258360616747008
+halfPiMiddle = ofBits binary64 0x3dd0b4611a600000  -- 6.077100506303966e-11
 
 abbrev pub halfPiLow : Float
-halfPiLow = ofBits binary64 4297306550709743731
+halfPiLow = ofBits binary64 0x3ba3198a2e037073  -- 2.0222662487959506e-21
+
+-- the coefficients of sine and cosine, by their names in docs/ROUTINES.md
+abbrev pub S1 : Float
+S1 = ofBits binary64 0x3fc5555555555549  -- 0.16666666666666632
+
+abbrev pub S2 : Float
+S2 = ofBits binary64 0x3f8111111110f8a6  -- 0.00833333333332249
+
+abbrev pub S3 : Float
+S3 = ofBits binary64 0x3f2a01a019c161d5  -- 0.0001984126982985795
+
+abbrev pub S4 : Float
+S4 = ofBits binary64 0x3ec71de357b1fe7d  -- 2.7557313707070068e-6
+
+abbrev pub S5 : Float
+S5 = ofBits binary64 0x3e5ae5e68a2b9ceb  -- 2.5050760253406863e-8
+
+abbrev pub S6 : Float
+S6 = ofBits binary64 0x3de5d93a5acfd57c  -- 1.58969099521155e-10
+
+abbrev pub C1 : Float
+C1 = ofBits binary64 0x3fa555555555554c  -- 0.0416666666666666
+
+abbrev pub C2 : Float
+C2 = ofBits binary64 0x3f56c16c16c15177  -- 0.001388888888887411
+
+abbrev pub C3 : Float
+C3 = ofBits binary64 0x3efa01a019cb1590  -- 2.480158728947673e-5
+
+abbrev pub C4 : Float
+C4 = ofBits binary64 0x3e927e4f809c52ad  -- 2.7557314351390663e-7
+
+abbrev pub C5 : Float
+C5 = ofBits binary64 0x3e21ee9ebdb4b1c4  -- 2.087572321298175e-9
+
+abbrev pub C6 : Float
+C6 = ofBits binary64 0x3da8fae9be8838d4  -- 1.1359647557788195e-11
 
 -- c - z p, the step of every polynomial
 abbrev pub under : Float → Float → Float → Float
@@ -71,23 +105,23 @@ unfolding add sub mul
 nearSine rest tail =
     let z = mul binary64 rest rest in
     let v = mul binary64 z rest in
-    let q5 = under (ofBits binary64 4493156356578843883) z (ofBits binary64 4460209850635244924) in
-    let q4 = under (ofBits binary64 4523617212983017085) z q5 in
-    let q3 = under (ofBits binary64 4551452160549806549) z q4 in
-    let q2 = under (ofBits binary64 4575957461383575718) z q3 in
+    let q5 = under S5 z S6 in
+    let q4 = under S4 z q5 in
+    let q3 = under S3 z q4 in
+    let q2 = under S2 z q3 in
     let g = sub binary64 (mul binary64 z (sub binary64 (mul binary64 half tail) (mul binary64 v q2))) tail in
-    sub binary64 rest (add binary64 g (mul binary64 v (ofBits binary64 4595172819793696073)))
+    sub binary64 rest (add binary64 g (mul binary64 v S1))
 
 -- the cosine of a rest with its tail
 unfoldable pub nearCosine : Float → Float → Float
 unfolding add sub mul
 nearCosine rest tail =
     let z = mul binary64 rest rest in
-    let q5 = under (ofBits binary64 4477121870137962948) z (ofBits binary64 4443076914231916756) in
-    let q4 = under (ofBits binary64 4508805056876532397) z q5 in
-    let q3 = under (ofBits binary64 4537941361668330896) z q4 in
-    let q2 = under (ofBits binary64 4564047942368973175) z q3 in
-    let q1 = under (ofBits binary64 4586165620538955084) z q2 in
+    let q5 = under C5 z C6 in
+    let q4 = under C4 z q5 in
+    let q3 = under C3 z q4 in
+    let q2 = under C2 z q3 in
+    let q1 = under C1 z q2 in
     let h = mul binary64 half z in
     let w = sub binary64 one h in
     add binary64 w (add binary64 (sub binary64 (sub binary64 one w) h) (sub binary64 (mul binary64 z (mul binary64 z q1)) (mul binary64 rest tail)))

@@ -1,4 +1,4 @@
--- Document 01 on sine and cosine: sine keeps a zero's sign and is exactly odd, cosine is exactly even, both are within -1..1, and a NaN, an infinity and what is beyond 64 give a NaN.
+-- Sine and cosine (docs/SPECIFICATION.md): sine keeps a zero's sign and is exactly odd, cosine is exactly even, both are within -1..1, and a NaN, an infinity and what is beyond 64 give a NaN.
 -- Assumes nothing.
 use mathlib.Core.Path.{_≡_, refl, sym, ap, _∙_, subst}
 use Prim.Native.Nat.{ℕ, zero, suc, _+_, _*_, _^_, _<_}
@@ -12,21 +12,13 @@ use lib.Ieee.{Float, nan, inf, fin, binary64, up, down, ofBits, neg, le, lt, eq,
 use lib.Ieee.Fits.{up-pos, and-l}
 use lib.Ieee.Scale.{finite}
 use Rattle.laws.specs.FloatOrder.{not-lt→le}
-use Rattle.laws.specs.FloatRounding.{le-neg}
+use Rattle.laws.specs.FloatRounding.{neg-neg, le-neg}
 use Rattle.laws.specs.FloatSums.{In}
 use Rattle.numbers.specs.Numbers.{absOf, signOf, clampOf}
 use Rattle.routines.specs.Circle.{one, minusOne, farthest, inReach, turnedSine, turnedCosine, reducedOf, sizeSine, sizeCosine, withSign, sineOf, cosineOf, pairOf}
 use Rattle.routines.specs.Reached.{sine-number, cosine-number}
 
 -- ---- signs
-pub neg-neg : (x : Float) → neg (neg x) ≡ x
-unfolding neg
-neg-neg nan = refl
-neg-neg (inf true) = refl
-neg-neg (inf false) = refl
-neg-neg (fin true m e) = refl
-neg-neg (fin false m e) = refl
-
 pub abs-neg : (x : Float) → absOf (neg x) ≡ absOf x
 unfolding absOf neg
 abs-neg nan = refl

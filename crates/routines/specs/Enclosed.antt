@@ -17,11 +17,8 @@ use Rattle.numbers.specs.Numbers.{convert}
 use Rattle.numbers.specs.Root.{roundRoot, sqrtOf}
 use Rattle.numbers.specs.RootOrder.{root-above, root-below}
 use Rattle.numbers.specs.Faithful.{sqrt-is}
+use Rattle.routines.specs.Hypotenuse.{enclosesOf}
 use Rattle.routines.specs.Squares.{square-is, lt-clash, gt-clash, not-under, convert-up, convert-fits, sqrt-up}
-
--- low and high enclose the root of s: a rounded square that lies beyond a value of the format tells that the exact one does
-abbrev pub encloses : Float → Float → Float → Bool
-encloses low s high = lt (ofBits binary64 0) low && lt (ofBits binary64 0) high && lt (mul binary64 low low) s && lt s (mul binary64 high high)
 
 -- ---- narrowing keeps the order, infinities included
 inf-most : (z : Float) → T (signed false z) → T (le z (inf false))
@@ -165,7 +162,7 @@ under-high f s (fin false m e) u S F G h = root-under f (fin false m e) s tt S F
 square-signed : (f : Format) (x : Float) → T (nonneg x) → T (signed false (mul f x x))
 square-signed f x p = subst (λ (z : Float). T (signed false z)) (sym (square-of f x p)) (round-signed false f _ _)
 
-pub enclosed : (low s high v w : Float) → T (fits binary64 low) → T (fits binary64 s) → T (fits binary64 high) → encloses low s high ≡ true → v ≡ convert binary32 low → w ≡ convert binary32 high → eq v w ≡ true → v ≡ convert binary32 (sqrtOf binary64 s)
+pub enclosed : (low s high v w : Float) → T (fits binary64 low) → T (fits binary64 s) → T (fits binary64 high) → enclosesOf low s high ≡ true → v ≡ convert binary32 low → w ≡ convert binary32 high → eq v w ≡ true → v ≡ convert binary32 (sqrtOf binary64 s)
 enclosed low s high v w F G H t ev ew q =
     let a = lt (ofBits binary64 0) low in
     let b = lt (ofBits binary64 0) high in

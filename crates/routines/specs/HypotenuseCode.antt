@@ -49,10 +49,10 @@ pub root-of-nan : (s : Float) → ne s s ≡ true → nan ≡ convert binary32 (
 root-of-nan s h = sym (ap (λ (z : Float). convert binary32 (sqrtOf binary64 z)) (differs-from-itself s (subst T (sym h) tt)) ∙ root-nan)
 
 -- half a pattern and the guess's constant make no NaN's pattern
-pub half-bits : (b : ℕ) → T (not (nanBits binary64 (b % 9223372036854775808 / 2 + 2303489773699701531)))
+pub half-bits : (b : ℕ) → T (not (nanBits binary64 (b % 0x8000_0000_0000_0000 / 2 + 0x1ff7_a3be_a91d_9b1b)))
 half-bits b =
-    let n = b % 9223372036854775808 / 2 + 2303489773699701531 in
-    subst (λ (k : ℕ). T (not (nanBits binary64 k))) (zero-add n) (no-nan-bits binary64 false n (below (b % 9223372036854775808) (mod-lt b (zero-lt-suc 9223372036854775807))))
+    let n = b % 0x8000_0000_0000_0000 / 2 + 0x1ff7_a3be_a91d_9b1b in
+    subst (λ (k : ℕ). T (not (nanBits binary64 k))) (zero-add n) (no-nan-bits binary64 false n (below (b % 0x8000_0000_0000_0000) (mod-lt b (zero-lt-suc 0x7fff_ffff_ffff_ffff))))
   where
-    below : (n : ℕ) → n < 9223372036854775808 → n / 2 + 2303489773699701531 ≤ 9218868437227405312
+    below : (n : ℕ) → n < 0x8000_0000_0000_0000 → n / 2 + 0x1ff7_a3be_a91d_9b1b ≤ 0x7ff0_0000_0000_0000
     below n h = omega arith

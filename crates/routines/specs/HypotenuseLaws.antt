@@ -1,4 +1,4 @@
--- Document 01 on the hypotenuse: an infinity wins over a NaN, a NaN without one gives a NaN, and otherwise the result is no NaN and the exact root lies strictly between its two neighbours.
+-- The hypotenuse (docs/SPECIFICATION.md): an infinity wins over a NaN, a NaN without one gives a NaN, and otherwise the result is no NaN and the exact root lies strictly between its two neighbours.
 -- Assumes nothing.
 use mathlib.Core.Path.{_≡_, refl, sym, ap, _∙_, subst}
 use Prim.Native.Nat.{ℕ, zero, suc, _+_, _-_, _*_, _%_, _^_, _≤_, _<_, zero-le}
@@ -18,12 +18,13 @@ use Rattle.laws.specs.FloatOrder.{nonneg, le→cross}
 use Rattle.laws.specs.FloatRounding.{signed, round-signed}
 use Rattle.laws.specs.FloatParts.{field, digitsOf, powerOf, finite-field, float-value, digits-lt}
 use Rattle.laws.specs.FloatValues.{round-least, round-most, no-inf, no-nan-fin}
+use Rattle.laws.specs.FloatSizes.{capped, nonneg-finite}
 use Rattle.numbers.specs.Numbers.{convert}
 use Rattle.numbers.specs.Nearest.{Value}
 use Rattle.numbers.specs.Root.{sqrtOf}
 use Rattle.numbers.specs.Faithful.{root-under, root-over}
-use Rattle.routines.specs.Hypotenuse.{infinite, rootOfSquares, hypotenuseOf}
-use Rattle.routines.specs.Squares.{square-is, nonneg-of, nonneg-finite, lt-clash, gt-clash, not-under, convert-up, convert-fits, sqrt-up}
+use Rattle.routines.specs.Hypotenuse.{infinite, rootOfSquares, hypotenuseOf, squaresOver, squaresUnder, Between}
+use Rattle.routines.specs.Squares.{square-is, nonneg-of, lt-clash, gt-clash, not-under, convert-up, convert-fits, sqrt-up}
 
 -- ---- the square of a value of binary32 is a value of binary64
 poly : (a b d u P R : ℕ) → a * P ≡ d * u * b → a * a * (P * P * R) ≡ d * d * (u * u * R) * (b * b)
@@ -72,14 +73,8 @@ bounded (fin s (suc m) e) h F =
     let last = and-r (eqb (suc m % 2) 1 && ltb (suc m) (2 ^ 24) && leb (down e) (2 ^ 149)) (ltb (suc m * up e) (2 ^ 128 * down e)) F in
     le-of-lt (ltb→lt (suc m * up e) (2 ^ 128 * down e) last)
 
--- ---- the sum of squares, as a fraction over / under
-abbrev pub over : Float → Float → ℕ
-over x y = num x * num x * (den y * den y) + num y * num y * (den x * den x)
-
-abbrev pub under : Float → Float → ℕ
-under x y = den x * den x * (den y * den y)
-
-under-pos : (x y : Float) → 0 < under x y
+-- ---- the sum of squares
+under-pos : (x y : Float) → 0 < squaresUnder x y
 under-pos x y = mul-pos (mul-pos (den-pos x) (den-pos x)) (mul-pos (den-pos y) (den-pos y))
 
 -- the sum of two fractions A / B and C / D, written otherwise
@@ -107,25 +102,17 @@ add-is f (fin false m e) (fin false n d) p q = refl
 abbrev pub squares : Float → Float → Float
 squares x y = add binary64 (mul binary64 x x) (mul binary64 y y)
 
-squares-is : (x y : Float) → T (finite x) → T (finite y) → T (fits binary32 x) → T (fits binary32 y) → squares x y ≡ round binary64 false (over x y) (under x y)
+squares-is : (x y : Float) → T (finite x) → T (finite y) → T (fits binary32 x) → T (fits binary32 y) → squares x y ≡ round binary64 false (squaresOver x y) (squaresUnder x y)
 squares-is x y h k F G =
     let X = mul binary64 x x in
     let Y = mul binary64 y y in
     let p = square-value x h F in
     let q = square-value y k G in
     add-is binary64 X Y (nonneg-of X (num x * num x) (den x * den x) p) (nonneg-of Y (num y * num y) (den y * den y) q)
-    ∙ round-same binary64 false (num X * den Y + num Y * den X) (den X * den Y) (over x y) (under x y) (mul-pos (den-pos X) (den-pos Y)) (under-pos x y)
+    ∙ round-same binary64 false (num X * den Y + num Y * den X) (den X * den Y) (squaresOver x y) (squaresUnder x y) (mul-pos (den-pos X) (den-pos Y)) (under-pos x y)
     (same-sum (num X) (den X) (num Y) (den Y) (num x * num x) (den x * den x) (num y * num y) (den y * den y) (value→cross X (num x * num x) (den x * den x) p) (value→cross Y (num y * num y) (den y * den y) q))
 
 -- ---- and it does not overflow
-capped : (z : Float) → T (signed false z) → T (le z (fin false 1 (pos 257))) → T (nonneg z)
-unfolding le
-capped nan u h = absurd u
-capped (inf true) u h = absurd u
-capped (inf false) u h = absurd h
-capped (fin true m e) u h = absurd u
-capped (fin false m e) u h = tt
-
 square-most : (n d P : ℕ) → n ≤ P * d → n * n ≤ P * P * (d * d)
 square-most n d P h = le-trans (mul-le-mul h h) (le-of-eq (mul-mul-mul-comm P d P d))
 
@@ -135,7 +122,7 @@ sum-most a b c d P h k =
     let v : c * b ≤ P * d * b = mul-le-mul-right b k in
     omega arith
 
-over-most : (x y : Float) → T (finite x) → T (finite y) → T (fits binary32 x) → T (fits binary32 y) → over x y ≤ (2 ^ 128 * 2 ^ 128 + 2 ^ 128 * 2 ^ 128) * under x y
+over-most : (x y : Float) → T (finite x) → T (finite y) → T (fits binary32 x) → T (fits binary32 y) → squaresOver x y ≤ (2 ^ 128 * 2 ^ 128 + 2 ^ 128 * 2 ^ 128) * squaresUnder x y
 over-most x y h k F G = sum-most (num x * num x) (den x * den x) (num y * num y) (den y * den y) (2 ^ 128 * 2 ^ 128) (square-most (num x) (den x) (2 ^ 128) (bounded x h F)) (square-most (num y) (den y) (2 ^ 128) (bounded y k G))
 
 ceiling-fits : T (fits binary64 (fin false 1 (pos 257)))
@@ -145,9 +132,9 @@ ceiling-fits = tt
 squares-nonneg : (x y : Float) → T (finite x) → T (finite y) → T (fits binary32 x) → T (fits binary32 y) → T (nonneg (squares x y))
 squares-nonneg x y h k F G =
     subst (λ (z : Float). T (nonneg z)) (sym (squares-is x y h k F G))
-    (capped (round binary64 false (over x y) (under x y)) (round-signed false binary64 (over x y) (under x y))
-    (round-most binary64 (over x y) (under x y) (fin false 1 (pos 257)) (under-pos x y) tt ceiling-fits
-    (le-trans (le-of-eq (mul-one (over x y))) (over-most x y h k F G))))
+    (capped (round binary64 false (squaresOver x y) (squaresUnder x y)) 257 (round-signed false binary64 (squaresOver x y) (squaresUnder x y))
+    (round-most binary64 (squaresOver x y) (squaresUnder x y) (fin false 1 (pos 257)) (under-pos x y) tt ceiling-fits
+    (le-trans (le-of-eq (mul-one (squaresOver x y))) (over-most x y h k F G))))
 
 -- ---- the root of a value s that is not negative, narrowed, against a value v of binary32: by squares
 above-zero : (n : ℕ) → 0 < suc n
@@ -182,11 +169,11 @@ root-most v (fin false zero e) p F q h =
     (round-most binary32 (0 * up e) (down e) v (down-pos e) p F (le-trans (le-of-eq none) zero-le))
 root-most v (fin false (suc m) e) p F q h = root-over v (fin false (suc m) e) p F (lt→ltb 0 (suc m) (above-zero m)) h
 
--- ---- document 01: the exact root, the root of over x y / under x y, lies strictly between the result's neighbours: it is above every value v of binary32 that is
+-- ---- the exact root, the root of squaresOver x y / squaresUnder x y, lies strictly between the result's neighbours: it is above every value v of binary32 that is
 -- below the result, and below every one that is above the result. Where the result is an infinity, the first half says that every finite value is below the root.
 module _ (x y v : Float) (h : T (finite x)) (k : T (finite y)) (F : T (fits binary32 x)) (G : T (fits binary32 y)) (N : T (nonneg v)) (H : T (fits binary32 v)) where
   -- v * v at most the exact sum is at most the rounded one, since v * v is a value of binary64
-  pub least : num v * num v * under x y ≤ over x y * (den v * den v) → T (le v (rootOfSquares x y))
+  pub least : num v * num v * squaresUnder x y ≤ squaresOver x y * (den v * den v) → T (le v (rootOfSquares x y))
   unfolding rootOfSquares
   least l =
       let vv = mul binary64 v v in
@@ -194,12 +181,12 @@ module _ (x y v : Float) (h : T (finite x)) (k : T (finite y)) (F : T (fits bina
       let w = square-value v (nonneg-finite v N) H in
       let c = value→cross vv (num v * num v) (den v * den v) w in
       let n = nonneg-of vv (num v * num v) (den v * den v) w in
-      let t : num vv * under x y ≤ over x y * den vv = transfer (num vv) (over x y) (den vv) (under x y) (num v * num v) (over x y) (den v * den v) (under x y) (mul-pos (den-pos v) (den-pos v)) (under-pos x y) c refl l in
-      let r : T (le vv s) = subst (λ (z : Float). T (le vv z)) (sym (squares-is x y h k F G)) (round-least binary64 (over x y) (under x y) vv (under-pos x y) n (mul-fits binary64 v v) t) in
+      let t : num vv * squaresUnder x y ≤ squaresOver x y * den vv = transfer (num vv) (squaresOver x y) (den vv) (squaresUnder x y) (num v * num v) (squaresOver x y) (den v * den v) (squaresUnder x y) (mul-pos (den-pos v) (den-pos v)) (under-pos x y) c refl l in
+      let r : T (le vv s) = subst (λ (z : Float). T (le vv z)) (sym (squares-is x y h k F G)) (round-least binary64 (squaresOver x y) (squaresUnder x y) vv (under-pos x y) n (mul-fits binary64 v v) t) in
       root-least v s N H (squares-nonneg x y h k F G)
       (transfer (num v * num v) (num s) (den v * den v) (den s) (num vv) (num s) (den vv) (den s) (den-pos vv) (den-pos s) (sym c) refl (le→cross vv s n (squares-nonneg x y h k F G) r))
 
-  pub most : over x y * (den v * den v) ≤ num v * num v * under x y → T (le (rootOfSquares x y) v)
+  pub most : squaresOver x y * (den v * den v) ≤ num v * num v * squaresUnder x y → T (le (rootOfSquares x y) v)
   unfolding rootOfSquares
   most l =
       let vv = mul binary64 v v in
@@ -207,8 +194,8 @@ module _ (x y v : Float) (h : T (finite x)) (k : T (finite y)) (F : T (fits bina
       let w = square-value v (nonneg-finite v N) H in
       let c = value→cross vv (num v * num v) (den v * den v) w in
       let n = nonneg-of vv (num v * num v) (den v * den v) w in
-      let t : over x y * den vv ≤ num vv * under x y = transfer (over x y) (num vv) (under x y) (den vv) (over x y) (num v * num v) (under x y) (den v * den v) (under-pos x y) (mul-pos (den-pos v) (den-pos v)) refl c l in
-      let r : T (le s vv) = subst (λ (z : Float). T (le z vv)) (sym (squares-is x y h k F G)) (round-most binary64 (over x y) (under x y) vv (under-pos x y) n (mul-fits binary64 v v) t) in
+      let t : squaresOver x y * den vv ≤ num vv * squaresUnder x y = transfer (squaresOver x y) (num vv) (squaresUnder x y) (den vv) (squaresOver x y) (num v * num v) (squaresUnder x y) (den v * den v) (under-pos x y) (mul-pos (den-pos v) (den-pos v)) refl c l in
+      let r : T (le s vv) = subst (λ (z : Float). T (le z vv)) (sym (squares-is x y h k F G)) (round-most binary64 (squaresOver x y) (squaresUnder x y) vv (under-pos x y) n (mul-fits binary64 v v) t) in
       root-most v s N H (squares-nonneg x y h k F G)
       (transfer (num s) (num v * num v) (den s) (den v * den v) (num s) (num vv) (den s) (den vv) (den-pos s) (den-pos vv) refl (sym c) (le→cross s vv (squares-nonneg x y h k F G) n r))
 
@@ -216,11 +203,11 @@ module _ (x y v : Float) (h : T (finite x)) (k : T (finite y)) (F : T (fits bina
   unfolding rootOfSquares
   result-up = convert-up binary32 (sqrtOf binary64 (squares x y)) (sqrt-up binary64 (squares x y) (squares-nonneg x y h k F G))
 
-  pub neighbour-below : T (lt v (rootOfSquares x y)) → num v * num v * under x y < over x y * (den v * den v)
-  neighbour-below l = not-under (num v * num v * under x y) (over x y * (den v * den v)) (λ m. lt-clash v (rootOfSquares x y) N result-up l (most m))
+  pub neighbour-below : T (lt v (rootOfSquares x y)) → num v * num v * squaresUnder x y < squaresOver x y * (den v * den v)
+  neighbour-below l = not-under (num v * num v * squaresUnder x y) (squaresOver x y * (den v * den v)) (λ m. lt-clash v (rootOfSquares x y) N result-up l (most m))
 
-  pub neighbour-above : T (lt (rootOfSquares x y) v) → over x y * (den v * den v) < num v * num v * under x y
-  neighbour-above l = not-under (over x y * (den v * den v)) (num v * num v * under x y) (λ m. gt-clash v (rootOfSquares x y) N result-up l (least m))
+  pub neighbour-above : T (lt (rootOfSquares x y) v) → squaresOver x y * (den v * den v) < num v * num v * squaresUnder x y
+  neighbour-above l = not-under (squaresOver x y * (den v * den v)) (num v * num v * squaresUnder x y) (λ m. gt-clash v (rootOfSquares x y) N result-up l (least m))
 
 -- ---- the special cases
 pub or-true : (b : Bool) → (b || true) ≡ true
@@ -264,11 +251,7 @@ finite-is-root (fin s m e) nan h k = absurd k
 finite-is-root (fin s m e) (inf t) h k = absurd k
 finite-is-root (fin s m e) (fin t n d) h k = refl
 
--- ---- document 01 in one record: for finite x and y, and every value v of binary32 that is not negative
-pub record Between (x y v r : Float) : Type 0 where
-  pub above-lower : T (lt v r) → num v * num v * under x y < over x y * (den v * den v)
-  pub below-upper : T (lt r v) → over x y * (den v * den v) < num v * num v * under x y
-
+-- ---- for finite x and y, and every value v of binary32 that is not negative
 pub hypotenuse-between : (x y v : Float) → T (finite x) → T (finite y) → T (fits binary32 x) → T (fits binary32 y) → T (nonneg v) → T (fits binary32 v) → Between x y v (hypotenuseOf x y)
 hypotenuse-between x y v h k F G N H =
     subst (Between x y v) (sym (finite-is-root x y h k))

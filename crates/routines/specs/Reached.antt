@@ -17,7 +17,7 @@ use Rattle.laws.specs.FloatProducts.{mul-in}
 use Rattle.laws.specs.FloatSizes.{Small, power, const-small, round-small, mul-small, add-small, sub-small}
 use Rattle.numbers.specs.Numbers.{signOf}
 use Rattle.routines.specs.declared.circle.Remainder.{Remainder}
-use Rattle.routines.specs.Circle.{half, one, farthest, twoOverPi, halfPiHigh, halfPiMiddle, halfPiLow, under, turnsOf, leftOf, reducedOf, nearSine, nearCosine, turnedSine, turnedCosine}
+use Rattle.routines.specs.Circle.{half, one, farthest, twoOverPi, halfPiHigh, halfPiMiddle, halfPiLow, under, turnsOf, leftOf, reducedOf, nearSine, nearCosine, turnedSine, turnedCosine, S1, S2, S3, S4, S5, S6, C1, C2, C3, C4, C5, C6}
 
 -- ---- strictly below, by natural numbers
 →below : (s : Bool) (a : ℕ) (t : Bool) (b : ℕ) → cond s 0 a + cond t b 0 < cond t 0 b + cond s a 0 → T (below s a t b)
@@ -149,47 +149,35 @@ module _ (rest tail : Float) (R : Small 13 rest) (S : Small 15 tail) where
   sine-small : Small 177 (nearSine rest tail)
   unfolding nearSine fits ofBits
   sine-small =
-      let c6 = ofBits binary64 4460209850635244924 in
-      let c5 = ofBits binary64 4493156356578843883 in
-      let c4 = ofBits binary64 4523617212983017085 in
-      let c3 = ofBits binary64 4551452160549806549 in
-      let c2 = ofBits binary64 4575957461383575718 in
-      let c1 = ofBits binary64 4595172819793696073 in
       let v = mul binary64 z rest in
       let Vs = mul-small binary64 26 13 z rest tt Z R in
-      let q5 = under c5 z c6 in
-      let Q5 = under-small 26 0 27 c5 z c6 tt tt tt (const-small 0 c5 tt tt) Z (const-small 0 c6 tt tt) in
-      let q4 = under c4 z q5 in
-      let Q4 = under-small 26 27 54 c4 z q5 tt tt tt (const-small 0 c4 tt tt) Z Q5 in
-      let q3 = under c3 z q4 in
-      let Q3 = under-small 26 54 81 c3 z q4 tt tt tt (const-small 0 c3 tt tt) Z Q4 in
-      let q2 = under c2 z q3 in
-      let Q2 = under-small 26 81 108 c2 z q3 tt tt tt (const-small 0 c2 tt tt) Z Q3 in
+      let q5 = under S5 z S6 in
+      let Q5 = under-small 26 0 27 S5 z S6 tt tt tt (const-small 0 S5 tt tt) Z (const-small 0 S6 tt tt) in
+      let q4 = under S4 z q5 in
+      let Q4 = under-small 26 27 54 S4 z q5 tt tt tt (const-small 0 S4 tt tt) Z Q5 in
+      let q3 = under S3 z q4 in
+      let Q3 = under-small 26 54 81 S3 z q4 tt tt tt (const-small 0 S3 tt tt) Z Q4 in
+      let q2 = under S2 z q3 in
+      let Q2 = under-small 26 81 108 S2 z q3 tt tt tt (const-small 0 S2 tt tt) Z Q3 in
       let i = sub binary64 (mul binary64 half tail) (mul binary64 v q2) in
       let I = sub-small binary64 15 147 148 (mul binary64 half tail) (mul binary64 v q2) tt tt (mul-small binary64 0 15 half tail tt (const-small 0 half tt tt) S) (mul-small binary64 39 108 v q2 tt Vs Q2) in
       let g = sub binary64 (mul binary64 z i) tail in
       let G = sub-small binary64 174 15 175 (mul binary64 z i) tail tt tt (mul-small binary64 26 148 z i tt Z I) S in
-      sub-small binary64 13 176 177 rest (add binary64 g (mul binary64 v c1)) tt tt R (add-small binary64 175 39 176 g (mul binary64 v c1) tt tt G (mul-small binary64 39 0 v c1 tt Vs (const-small 0 c1 tt tt)))
+      sub-small binary64 13 176 177 rest (add binary64 g (mul binary64 v S1)) tt tt R (add-small binary64 175 39 176 g (mul binary64 v S1) tt tt G (mul-small binary64 39 0 v S1 tt Vs (const-small 0 S1 tt tt)))
 
   cosine-small : Small 190 (nearCosine rest tail)
   unfolding nearCosine fits ofBits
   cosine-small =
-      let c6 = ofBits binary64 4443076914231916756 in
-      let c5 = ofBits binary64 4477121870137962948 in
-      let c4 = ofBits binary64 4508805056876532397 in
-      let c3 = ofBits binary64 4537941361668330896 in
-      let c2 = ofBits binary64 4564047942368973175 in
-      let c1 = ofBits binary64 4586165620538955084 in
-      let q5 = under c5 z c6 in
-      let Q5 = under-small 26 0 27 c5 z c6 tt tt tt (const-small 0 c5 tt tt) Z (const-small 0 c6 tt tt) in
-      let q4 = under c4 z q5 in
-      let Q4 = under-small 26 27 54 c4 z q5 tt tt tt (const-small 0 c4 tt tt) Z Q5 in
-      let q3 = under c3 z q4 in
-      let Q3 = under-small 26 54 81 c3 z q4 tt tt tt (const-small 0 c3 tt tt) Z Q4 in
-      let q2 = under c2 z q3 in
-      let Q2 = under-small 26 81 108 c2 z q3 tt tt tt (const-small 0 c2 tt tt) Z Q3 in
-      let q1 = under c1 z q2 in
-      let Q1 = under-small 26 108 135 c1 z q2 tt tt tt (const-small 0 c1 tt tt) Z Q2 in
+      let q5 = under C5 z C6 in
+      let Q5 = under-small 26 0 27 C5 z C6 tt tt tt (const-small 0 C5 tt tt) Z (const-small 0 C6 tt tt) in
+      let q4 = under C4 z q5 in
+      let Q4 = under-small 26 27 54 C4 z q5 tt tt tt (const-small 0 C4 tt tt) Z Q5 in
+      let q3 = under C3 z q4 in
+      let Q3 = under-small 26 54 81 C3 z q4 tt tt tt (const-small 0 C3 tt tt) Z Q4 in
+      let q2 = under C2 z q3 in
+      let Q2 = under-small 26 81 108 C2 z q3 tt tt tt (const-small 0 C2 tt tt) Z Q3 in
+      let q1 = under C1 z q2 in
+      let Q1 = under-small 26 108 135 C1 z q2 tt tt tt (const-small 0 C1 tt tt) Z Q2 in
       let h = mul binary64 half z in
       let H = mul-small binary64 0 26 half z tt (const-small 0 half tt tt) Z in
       let w = sub binary64 one h in

@@ -9,7 +9,6 @@ use lib.Dec.{T, ltb, eqb, ltb→lt, nltb→le, eqb→eq}
 use lib.Ieee.{Float, nan, inf, fin, Format, up, down, round, mul, lt, le, fits}
 use lib.Ieee.Fits.{and-l, round-fits, inf-fits}
 use lib.Ieee.Exact.{HasValue}
-use lib.Ieee.Scale.{finite}
 use Rattle.laws.specs.FloatOrder.{nonneg, or-split}
 use Rattle.laws.specs.FloatRounding.{signed, round-signed}
 use Rattle.numbers.specs.Numbers.{convert}
@@ -32,11 +31,6 @@ nonneg-signed nan p = absurd p
 nonneg-signed (inf s) p = absurd p
 nonneg-signed (fin true m e) p = absurd p
 nonneg-signed (fin false m e) p = tt
-
-pub nonneg-finite : (x : Float) → T (nonneg x) → T (finite x)
-nonneg-finite nan h = absurd h
-nonneg-finite (inf s) h = absurd h
-nonneg-finite (fin s m e) h = tt
 
 -- ---- lt and le of the other way exclude each other, for v finite and not negative
 clash : (a b : ℕ) → T (ltb a b) → T (ltb b a || (eqb b a && true)) → ⊥

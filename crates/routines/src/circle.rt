@@ -18,6 +18,31 @@ const HALF_PI_MIDDLE: f64 = 6.077100506303966e-11;
 
 const HALF_PI_LOW: f64 = 2.0222662487959506e-21;
 
+// The coefficients of sine and cosine, by their names in docs/ROUTINES.md.
+const S1: f64 = 0.16666666666666632;
+
+const S2: f64 = 0.00833333333332249;
+
+const S3: f64 = 0.0001984126982985795;
+
+const S4: f64 = 2.7557313707070068e-6;
+
+const S5: f64 = 2.5050760253406863e-8;
+
+const S6: f64 = 1.58969099521155e-10;
+
+const C1: f64 = 0.0416666666666666;
+
+const C2: f64 = 0.001388888888887411;
+
+const C3: f64 = 2.480158728947673e-5;
+
+const C4: f64 = 2.7557314351390663e-7;
+
+const C5: f64 = 2.087572321298175e-9;
+
+const C6: f64 = 1.1359647557788195e-11;
+
 pub struct SineCosine {
     pub sine: f64,
     pub cosine: f64,
@@ -66,12 +91,12 @@ fn near_sine(rest: f64, tail: f64) -> f64
 {
     let z = rest * rest;
     let v = z * rest;
-    let q5 = 2.5050760253406863e-8 - z * 1.58969099521155e-10;
-    let q4 = 2.7557313707070068e-6 - z * q5;
-    let q3 = 0.0001984126982985795 - z * q4;
-    let q2 = 0.00833333333332249 - z * q3;
+    let q5 = S5 - z * S6;
+    let q4 = S4 - z * q5;
+    let q3 = S3 - z * q4;
+    let q2 = S2 - z * q3;
     let g = z * (0.5 * tail - v * q2) - tail;
-    rest - (g + v * 0.16666666666666632)
+    rest - (g + v * S1)
 }
 
 // The cosine of such a rest.
@@ -79,11 +104,11 @@ fn near_cosine(rest: f64, tail: f64) -> f64
     ensures { λ r. ⌜ r ≡ Circle.nearCosine rest tail ⌝ }
 {
     let z = rest * rest;
-    let q5 = 2.087572321298175e-9 - z * 1.1359647557788195e-11;
-    let q4 = 2.7557314351390663e-7 - z * q5;
-    let q3 = 2.480158728947673e-5 - z * q4;
-    let q2 = 0.001388888888887411 - z * q3;
-    let q1 = 0.0416666666666666 - z * q2;
+    let q5 = C5 - z * C6;
+    let q4 = C4 - z * q5;
+    let q3 = C3 - z * q4;
+    let q2 = C2 - z * q3;
+    let q1 = C1 - z * q2;
     let h = 0.5 * z;
     let w = 1.0 - h;
     w + (((1.0 - w) - h) + (z * (z * q1) - rest * tail))

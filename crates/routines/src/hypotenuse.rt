@@ -5,7 +5,6 @@ ghost use lib.Dec.{T};
 ghost use lib.Ieee.{binary32, binary64, isNan};
 ghost use Rattle.numbers.specs.Numbers.{convert};
 ghost use Rattle.numbers.specs.Root.{sqrtOf};
-ghost use Rattle.routines.specs.Enclosed as Enclosed;
 ghost use Rattle.routines.specs.Hypotenuse as Hypotenuse;
 use numbers::narrow::narrow;
 use numbers::narrow::widen;
@@ -35,7 +34,7 @@ fn near_root(s: f64) -> f64
 
 // Whether the root of s lies between low and high, by squares.
 fn encloses(low: f64, s: f64, high: f64) -> bool
-    ensures { λ r. ⌜ r ≡ Enclosed.encloses low s high ⌝ }
+    ensures { λ r. ⌜ r ≡ Hypotenuse.enclosesOf low s high ⌝ }
 {
     (0.0 < low) & (0.0 < high) & (low * low < s) & (s < high * high)
 }

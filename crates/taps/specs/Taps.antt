@@ -21,9 +21,13 @@ unfoldable pub sizesOf : List Float → Float
 unfolding add absOf
 sizesOf = foldl (λ (sum d : Float). add binary32 sum (absOf d)) (ofBits binary32 0)
 
+-- what the sizes of all derivatives add up to
+abbrev pub sizeSum : Float
+sizeSum = ofBits binary32 0x42000000  -- 32
+
 unfoldable pub factorOf : List Float → Float
 unfolding div
-factorOf taps = div binary32 (ofBits binary32 1107296256) (sizesOf (differencesOf taps))
+factorOf taps = div binary32 sizeSum (sizesOf (differencesOf taps))
 
 -- the first and the last tap have no difference: a zero stands there, and is scaled with the rest
 unfoldable pub derivativesOf : Float → List Float → List Float

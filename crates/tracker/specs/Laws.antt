@@ -5,7 +5,7 @@ use native.Mathlib.Omega.{arith}
 use mathlib.Core.List.{List}
 use lib.ListN.{length, set, getD}
 use mathlib.Core.Bool.{Bool, true, false, cond}
-use lib.Ieee.{Float, nan, binary32, ofBits, neg, mul, div, lt}
+use lib.Ieee.{Float, nan, binary32, neg, mul, div, lt}
 use Rattle.laws.specs.Turns.{turns, turns-step}
 use Rattle.laws.specs.Places.{upto, length-upto, upto-at, upto-same, fill, fill-step}
 use Rattle.complex.specs.declared.Complex32.{Complex32}
@@ -13,8 +13,8 @@ use Rattle.complex.specs.Complex.{differenceOf, scaledOf}
 use Rattle.numbers.specs.Root.{sqrtOf}
 use Rattle.tracker.specs.declared.channel.Taps.{Taps}
 use Rattle.tracker.specs.Stripes.{column, columns, columns-length, column-same}
-use Rattle.tracker.specs.Tracker.{level, realOf, imaginaryOf, symbolOf, Planes, pointAt, termOf, predictionOf, tapsOf, learntOf, normOf, gainOf, scaledTaps, limitedOf, inheritedAt, learntAt, tapsAfter, tapOf, laidOut, followedOf}
-use Rattle.tracker.specs.Layout.{pastOf, predictionWith, putOf, limitedPart, limitedAt, scaledColumn, limitColumn}
+use Rattle.tracker.specs.Tracker.{level, realOf, imaginaryOf, symbolOf, Planes, pointAt, termOf, predictionOf, tapsOf, learntOf, normOf, mostPower, mostSize, gainOf, scaledTaps, limitedOf, inheritedAt, learntAt, tapsAfter, tapOf, laidOut, followedOf}
+use Rattle.tracker.specs.Layout.{pastOf, predictedOf, putOf, limitedPart, limitedAt, scaledColumn, limitColumn}
 
 -- ---- the symbols' signs
 pub real-plus : (k : ℕ) → k < 4 → (k + 1) % 4 < 2 → level ≡ realOf k
@@ -62,7 +62,7 @@ past-end part c = columns nan (λ t p x. part (pastOf c t p)) 3
 -- ---- the prediction from the planes is the prediction
 pub prediction-is : (c past : Planes) (k p : ℕ) → p < 64
     → past .real ≡ upto (λ i. pastOf c (i / 64) (i % 64) .real) 192 → past .imaginary ≡ upto (λ i. pastOf c (i / 64) (i % 64) .imaginary) 192
-    → predictionWith c past (symbolOf k) p ≡ predictionOf c k p
+    → predictedOf c past (symbolOf k) p ≡ predictionOf c k p
 prediction-is c past k p h e f =
     rw (
       real-is 0 p (omega arith) (omega arith) (omega arith),
@@ -119,14 +119,14 @@ pub norms-step : (f : ℕ → Taps) (s : ℕ) (l m : List Float) (n : Float) (t 
 norms-step f s l m n t e g h = fill-step (λ k. normOf (f k)) s l m (set m s n) (ap (set m s) (g ∙ ap normOf e)) h
 
 -- ---- the limit
-pub limit-yes : (norm root : Float) (s : ℕ) (l m : List Float) → lt (ofBits binary32 1098907648) norm ≡ true → root ≡ sqrtOf binary32 norm
-    → m ≡ scaledColumn (div binary32 (ofBits binary32 1082130432) root) s l → m ≡ limitColumn norm s l
+pub limit-yes : (norm root : Float) (s : ℕ) (l m : List Float) → lt mostPower norm ≡ true → root ≡ sqrtOf binary32 norm
+    → m ≡ scaledColumn (div binary32 mostSize root) s l → m ≡ limitColumn norm s l
 unfolding scaledColumn limitColumn limitedPart gainOf
 limit-yes norm root s l m t e h =
-    h ∙ ap (λ (z : Float). column nan (λ t s x. mul binary32 x (div binary32 (ofBits binary32 1082130432) z)) 4 s l) e
-    ∙ ap (λ (b : Bool). column nan (λ t s x. cond b (mul binary32 x (div binary32 (ofBits binary32 1082130432) (sqrtOf binary32 norm))) x) 4 s l) (sym t)
+    h ∙ ap (λ (z : Float). column nan (λ t s x. mul binary32 x (div binary32 mostSize z)) 4 s l) e
+    ∙ ap (λ (b : Bool). column nan (λ t s x. cond b (mul binary32 x (div binary32 mostSize (sqrtOf binary32 norm))) x) 4 s l) (sym t)
 
-pub limit-no : (norm : Float) (s : ℕ) (l : List Float) → lt (ofBits binary32 1098907648) norm ≡ false → l ≡ limitColumn norm s l
+pub limit-no : (norm : Float) (s : ℕ) (l : List Float) → lt mostPower norm ≡ false → l ≡ limitColumn norm s l
 unfolding limitColumn limitedPart
 limit-no norm s l t = column-same nan (λ t s x. limitedPart norm x) 4 s l (λ k x. rw t)
 
@@ -146,16 +146,16 @@ unfolding limitTurn
 limit-end norms = columns nan (λ t s x. limitedPart (getD norms s nan) x) 4
 
 -- ---- the step
-pub learnt-is : (c : Planes) (parents : List ℕ) (guesses : Planes) (input : Complex32) (s : ℕ) (r t : Taps) (e : Complex32)
-    → t ≡ tapsOf c (getD parents s 0) → e ≡ differenceOf input (pointAt guesses s) → r ≡ learntOf t e (s % 4) (getD parents s 0) → r ≡ learntAt c parents guesses input s
+pub learnt-is : (c : Planes) (parents : List ℕ) (predictions : Planes) (input : Complex32) (s : ℕ) (r t : Taps) (e : Complex32)
+    → t ≡ tapsOf c (getD parents s 0) → e ≡ differenceOf input (pointAt predictions s) → r ≡ learntOf t e (s % 4) (getD parents s 0) → r ≡ learntAt c parents predictions input s
 unfolding learntAt
-learnt-is c parents guesses input s r t e p q h = h ∙ ap (λ (z : Taps). learntOf z e (s % 4) (getD parents s 0)) p ∙ ap (λ (z : Complex32). learntOf (tapsOf c (getD parents s 0)) z (s % 4) (getD parents s 0)) q
+learnt-is c parents predictions input s r t e p q h = h ∙ ap (λ (z : Taps). learntOf z e (s % 4) (getD parents s 0)) p ∙ ap (λ (z : Complex32). learntOf (tapsOf c (getD parents s 0)) z (s % 4) (getD parents s 0)) q
 
 -- limiting each part is limiting the taps
 module _ (part : Complex32 → Float) (scales : (z : Complex32) (gain : Float) → part (scaledOf z gain) ≡ mul binary32 (part z) gain) where
   part-limited : (t : Taps) (k : ℕ) → k < 4 → limitedPart (normOf t) (part (tapOf t k)) ≡ part (tapOf (limitedOf t) k)
   unfolding limitedPart limitedOf
-  part-limited t k h = go (lt (ofBits binary32 1098907648) (normOf t)) k h
+  part-limited t k h = go (lt mostPower (normOf t)) k h
     where
       go : (b : Bool) (k : ℕ) → k < 4 → cond b (mul binary32 (part (tapOf t k)) (gainOf (normOf t))) (part (tapOf t k)) ≡ part (tapOf (cond b (scaledTaps t (gainOf (normOf t))) t) k)
       go true zero h = sym (scales (t .main) (gainOf (normOf t)))
@@ -172,16 +172,16 @@ module _ (part : Complex32 → Float) (scales : (z : Complex32) (gain : Float) �
       h ∙ upto-same (limitedAt norms l) (λ i. part (tapOf (limitedOf (f (i % 64))) (i / 64))) 256
       (λ i b. rw (e, g, upto-at (λ i. part (tapOf (f (i % 64)) (i / 64))) 256 i nan b, upto-at (λ s. normOf (f s)) 64 (i % 64) nan (omega arith)) (part-limited (f (i % 64)) (i / 64) (omega arith)))
 
-module _ (c : Planes) (parents : List ℕ) (guesses : Planes) (input : Complex32) (reliable : Bool) where
+module _ (c : Planes) (parents : List ℕ) (predictions : Planes) (input : Complex32) (reliable : Bool) where
   pub followed-yes : (a b norms x y : List Float) → reliable ≡ true
-      → a ≡ laidOut (learntAt c parents guesses input) .real → b ≡ laidOut (learntAt c parents guesses input) .imaginary → norms ≡ upto (λ s. normOf (learntAt c parents guesses input s)) 64
+      → a ≡ laidOut (learntAt c parents predictions input) .real → b ≡ laidOut (learntAt c parents predictions input) .imaginary → norms ≡ upto (λ s. normOf (learntAt c parents predictions input s)) 64
       → x ≡ upto (limitedAt norms a) 256 → y ≡ upto (limitedAt norms b) 256
-      → _≡_ {A = Planes} (record { real = x; imaginary = y }) (followedOf c parents guesses input reliable)
+      → _≡_ {A = Planes} (record { real = x; imaginary = y }) (followedOf c parents predictions input reliable)
   unfolding laidOut followedOf tapsAfter
   followed-yes a b norms x y t p q n u v =
-      rw (t, plane-limited (λ z. z .real) (λ z gain. refl) (learntAt c parents guesses input) norms a x p n u, plane-limited (λ z. z .imaginary) (λ z gain. refl) (learntAt c parents guesses input) norms b y q n v)
+      rw (t, plane-limited (λ z. z .real) (λ z gain. refl) (learntAt c parents predictions input) norms a x p n u, plane-limited (λ z. z .imaginary) (λ z gain. refl) (learntAt c parents predictions input) norms b y q n v)
 
   pub followed-no : (x y : List Float) → reliable ≡ false → x ≡ laidOut (inheritedAt c parents) .real → y ≡ laidOut (inheritedAt c parents) .imaginary
-      → _≡_ {A = Planes} (record { real = x; imaginary = y }) (followedOf c parents guesses input reliable)
+      → _≡_ {A = Planes} (record { real = x; imaginary = y }) (followedOf c parents predictions input reliable)
   unfolding laidOut followedOf tapsAfter
   followed-no x y t u v = rw (t, u, v)

@@ -1,4 +1,4 @@
--- The states' channels, what they predict and how they follow: document 01's detector, its first tracker. Definitions only.
+-- The states' channels, what they predict and how they follow: the detector's first tracker (docs/SPECIFICATION.md). Definitions only.
 use Prim.Native.Nat.{ℕ, _+_, _/_, _%_, _<_}
 use mathlib.Core.Bool.{Bool, cond}
 use mathlib.Core.List.{List, [], _∷_}
@@ -7,15 +7,16 @@ use lib.Ieee.{Float, nan, binary32, ofBits, neg, add, mul, div, lt}
 use Rattle.laws.specs.Places.{upto}
 use Rattle.numbers.specs.Root.{sqrtOf}
 use Rattle.complex.specs.declared.Complex32.{Complex32}
-use Rattle.complex.specs.Complex.{zeroPair, sumOf, differenceOf, scaledOf, productOf, conjugateProductOf, powerOf}
+use Rattle.complex.specs.Complex.{rootHalf, zeroPair, sumOf, differenceOf, scaledOf, productOf, conjugateProductOf, powerOf}
 use Rattle.tracker.specs.declared.channel.Taps.{Taps}
 
 -- ---- symbols
 
--- 1/√2 in f32
+-- each part of a symbol in size, so that the symbol is of size 1
 abbrev pub level : Float
-level = ofBits binary32 1060439283
+level = rootHalf
 
+-- the symbols 0 to 3 lie at 45, 135, 225 and 315 degrees
 abbrev pub realOf : ℕ → Float
 realOf k = getD (level ∷ neg level ∷ neg level ∷ level ∷ []) k level
 
@@ -51,6 +52,16 @@ predictionOf c k p = sumOf (sumOf (sumOf (sumOf zeroPair (termOf c p k)) (termOf
 
 -- ---- how the taps follow
 
+-- The steps by which the main tap, the first after it and the two later ones move: larger ones follow faster and are noisier, and the later taps have little to follow.
+abbrev pub mainStep : Float
+mainStep = ofBits binary32 0x3df5c28f  -- 0.12
+
+abbrev pub firstStep : Float
+firstStep = ofBits binary32 0x3da3d70a  -- 0.08
+
+abbrev pub laterStep : Float
+laterStep = ofBits binary32 0x3ca3d70a  -- 0.02
+
 -- a tap moved by step × error × the symbol's conjugate
 abbrev pub movedOf : Complex32 → Float → Complex32 → Complex32 → Complex32
 movedOf h step error s = record {
@@ -58,29 +69,36 @@ movedOf h step error s = record {
   imaginary = add binary32 (h .imaginary) (mul binary32 step (conjugateProductOf error s .imaginary));
 }
 
--- the taps of the prior p, moved by the error, where the newest symbol is k. The steps are 0.12, 0.08, 0.02 and 0.02.
+-- the taps of the prior p, moved by the error, where the newest symbol is k
 unfoldable pub learntOf : Taps → Complex32 → ℕ → ℕ → Taps
 learntOf t error k p = record {
-  main = movedOf (t .main) (ofBits binary32 1039516303) error (symbolOf k);
-  one = movedOf (t .one) (ofBits binary32 1034147594) error (symbolOf (p % 4));
-  two = movedOf (t .two) (ofBits binary32 1017370378) error (symbolOf (p / 4 % 4));
-  three = movedOf (t .three) (ofBits binary32 1017370378) error (symbolOf (p / 16));
+  main = movedOf (t .main) mainStep error (symbolOf k);
+  one = movedOf (t .one) firstStep error (symbolOf (p % 4));
+  two = movedOf (t .two) laterStep error (symbolOf (p / 4 % 4));
+  three = movedOf (t .three) laterStep error (symbolOf (p / 16));
 }
 
 -- the taps' power
 unfoldable pub normOf : Taps → Float
 normOf t = add binary32 (add binary32 (add binary32 (add binary32 (ofBits binary32 0) (powerOf (t .main))) (powerOf (t .one))) (powerOf (t .two))) (powerOf (t .three))
 
+-- the most power that taps may have, and the size of such taps
+abbrev pub mostPower : Float
+mostPower = ofBits binary32 0x41800000  -- 16
+
+abbrev pub mostSize : Float
+mostSize = ofBits binary32 0x40800000  -- 4
+
 -- 4 / √norm: what brings taps of that power back to 16
 unfoldable pub gainOf : Float → Float
-gainOf norm = div binary32 (ofBits binary32 1082130432) (sqrtOf binary32 norm)
+gainOf norm = div binary32 mostSize (sqrtOf binary32 norm)
 
 abbrev pub scaledTaps : Taps → Float → Taps
 scaledTaps t gain = record { main = scaledOf (t .main) gain; one = scaledOf (t .one) gain; two = scaledOf (t .two) gain; three = scaledOf (t .three) gain }
 
 -- taps of a power above 16 are brought back to it
 unfoldable pub limitedOf : Taps → Taps
-limitedOf t = cond (lt (ofBits binary32 1098907648) (normOf t)) (scaledTaps t (gainOf (normOf t))) t
+limitedOf t = cond (lt mostPower (normOf t)) (scaledTaps t (gainOf (normOf t))) t
 
 -- the taps of the state s after a step: its parent's ..
 abbrev pub inheritedAt : Planes → List ℕ → ℕ → Taps

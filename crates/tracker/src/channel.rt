@@ -3,10 +3,12 @@ ghost use mathlib.Core.Path.{_≡_};
 ghost use Prim.Native.Nat.{_<_};
 ghost use lib.ListN.{length};
 ghost use Rattle.tracker.specs.Layout.{putOf};
-ghost use Rattle.tracker.specs.Tracker.{Planes, tapsOf};
+ghost use Rattle.tracker.specs.Lends.{reads};
+ghost use Rattle.tracker.specs.Tracker.{tapsOf};
+use super::CHANNELS;
 use complex::Complex32;
 
-// For the newest symbol and the three before it.
+// The taps of one state: for the newest symbol and for the three before it.
 pub struct Taps {
     pub main: Complex32,
     pub one: Complex32,
@@ -14,9 +16,10 @@ pub struct Taps {
     pub three: Complex32,
 }
 
-pub fn taps_at(real: &[f32; 256], imaginary: &[f32; 256], state: usize) -> Taps
+// The taps of one state, read from the two planes.
+pub fn taps_at(real: &[f32; CHANNELS], imaginary: &[f32; CHANNELS], state: usize) -> Taps
     requires { ⌜ state < 64 ⌝ }
-    ensures { λ r. ⌜ r ≡ tapsOf (record { real = now (real .entry); imaginary = now (imaginary .entry) }) state ⌝ }
+    ensures { λ r. ⌜ reads real imaginary (λ channels. r ≡ tapsOf channels state) ⌝ }
 {
     Taps {
         main: Complex32 {
@@ -38,7 +41,8 @@ pub fn taps_at(real: &[f32; 256], imaginary: &[f32; 256], state: usize) -> Taps
     }
 }
 
-fn put(plane: &mut [f32; 256], state: usize, main: f32, one: f32, two: f32, three: f32)
+// One part of a state's taps, put in its four places of a plane.
+fn put(plane: &mut [f32; CHANNELS], state: usize, main: f32, one: f32, two: f32, three: f32)
     requires { ⌜ (state < 64) × (length (now plane) ≡ 256) ⌝ }
     ensures { λ r. ⌜ now (plane .exit) ≡ putOf (now (plane .entry)) state main one two three ⌝ }
 {
@@ -48,7 +52,8 @@ fn put(plane: &mut [f32; 256], state: usize, main: f32, one: f32, two: f32, thre
     plane[state + 192] = three;
 }
 
-pub fn put_taps(real: &mut [f32; 256], imaginary: &mut [f32; 256], state: usize, t: Taps)
+// The taps of one state, put in their places of both planes.
+pub fn put_taps(real: &mut [f32; CHANNELS], imaginary: &mut [f32; CHANNELS], state: usize, t: Taps)
     requires { ⌜ (state < 64) × (length (now real) ≡ 256) × (length (now imaginary) ≡ 256) ⌝ }
     ensures { λ r. ⌜ now (real .exit) ≡ putOf (now (real .entry)) state (t .main .real) (t .one .real) (t .two .real) (t .three .real) ⌝ }
     ensures { λ r. ⌜ now (imaginary .exit) ≡ putOf (now (imaginary .entry)) state (t .main .imaginary) (t .one .imaginary) (t .two .imaginary) (t .three .imaginary) ⌝ }

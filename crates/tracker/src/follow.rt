@@ -6,7 +6,10 @@ ghost use lib.ListN.{length};
 ghost use lib.Ieee as Ieee;
 ghost use Rattle.laws.specs.Places.{upto};
 ghost use Rattle.tracker.specs.Layout.{scaledColumn, limitColumn, limitedAt};
-ghost use Rattle.tracker.specs.Tracker.{Planes, pointAt, tapsOf, movedOf, learntOf, normOf, gainOf, tapOf, laidOut, followedOf, Parents, learntAt, inheritedAt};
+ghost use Rattle.tracker.specs.Lends.{reads, leaves};
+ghost use Rattle.tracker.specs.Tracker.{movedOf, learntOf, normOf, laidOut, followedOf, Parents, learntAt, inheritedAt};
+use super::CHANNELS;
+use super::STATES;
 use super::channel::Taps;
 use super::channel::put_taps;
 use super::channel::taps_at;
@@ -15,6 +18,19 @@ use complex::Complex32;
 use complex::power;
 use complex::subtracted;
 use roots::sqrt32;
+
+// The steps by which the main tap, the first after it and the two later ones move. Larger steps
+// follow faster and are noisier: the later taps have little to follow.
+const MAIN_STEP: f32 = 0.12;
+
+const FIRST_STEP: f32 = 0.08;
+
+const LATER_STEP: f32 = 0.02;
+
+// The most power that a state's taps may have, and the size of such taps.
+const MOST_POWER: f32 = 16.0;
+
+const MOST_SIZE: f32 = 4.0;
 
 // A tap moved by step x error x the symbol's conjugate.
 fn moved(tap: Complex32, step: f32, error: Complex32, s: Complex32) -> Complex32
@@ -26,8 +42,7 @@ fn moved(tap: Complex32, step: f32, error: Complex32, s: Complex32) -> Complex32
     }
 }
 
-// A prior's taps moved by the error, with the newest symbol and the prior's three. Larger steps
-// follow faster and are noisier: the later taps have little to follow.
+// A prior's taps moved by the error, with the newest symbol and the prior's three.
 fn learnt(t: Taps, error: Complex32, newest: u32, prior: u32) -> Taps
     requires { ⌜ (newest < 4) × (prior < 64) ⌝ }
     ensures { λ r. ⌜ r ≡ learntOf t error newest prior ⌝ }
@@ -37,13 +52,14 @@ fn learnt(t: Taps, error: Complex32, newest: u32, prior: u32) -> Taps
     let two = t.two;
     let three = t.three;
     Taps {
-        main: moved(main, 0.12, error, symbol(newest)),
-        one: moved(one, 0.08, error, symbol(prior % 4)),
-        two: moved(two, 0.02, error, symbol(prior / 4 % 4)),
-        three: moved(three, 0.02, error, symbol(prior / 16)),
+        main: moved(main, MAIN_STEP, error, symbol(newest)),
+        one: moved(one, FIRST_STEP, error, symbol(prior % 4)),
+        two: moved(two, LATER_STEP, error, symbol(prior / 4 % 4)),
+        three: moved(three, LATER_STEP, error, symbol(prior / 16)),
     }
 }
 
+// The taps' power: the sum of the squares of their sizes.
 fn norm_of(t: Taps) -> f32
     ensures { λ r. ⌜ r ≡ normOf t ⌝ }
 {
@@ -56,31 +72,32 @@ fn norm_of(t: Taps) -> f32
 
 // Each state's taps are its parent's, moved by its error and its symbols; and their power.
 fn learn(
-    old_real: &[f32; 256],
-    old_imaginary: &[f32; 256],
-    parents: &[u8; 64],
-    guess_real: &[f32; 64],
-    guess_imaginary: &[f32; 64],
+    old_real: &[f32; CHANNELS],
+    old_imaginary: &[f32; CHANNELS],
+    parents: &[u8; STATES],
+    prediction_real: &[f32; STATES],
+    prediction_imaginary: &[f32; STATES],
     input: Complex32,
-    real: &mut [f32; 256],
-    imaginary: &mut [f32; 256],
-    norms: &mut [f32; 64],
+    real: &mut [f32; CHANNELS],
+    imaginary: &mut [f32; CHANNELS],
+    norms: &mut [f32; STATES],
 )
     requires { ⌜ Parents (now parents) × (length (now real) ≡ 256) × (length (now imaginary) ≡ 256) × (length (now norms) ≡ 64) ⌝ }
-    ensures { λ r. ⌜ now (real .exit) ≡ laidOut (learntAt (record { real = now («old_real» .entry); imaginary = now («old_imaginary» .entry) }) (now (parents .entry)) (record { real = now («guess_real» .entry); imaginary = now («guess_imaginary» .entry) }) input) .real ⌝ }
-    ensures { λ r. ⌜ now (imaginary .exit) ≡ laidOut (learntAt (record { real = now («old_real» .entry); imaginary = now («old_imaginary» .entry) }) (now (parents .entry)) (record { real = now («guess_real» .entry); imaginary = now («guess_imaginary» .entry) }) input) .imaginary ⌝ }
-    ensures { λ r. ⌜ now (norms .exit) ≡ upto (λ s. normOf (learntAt (record { real = now («old_real» .entry); imaginary = now («old_imaginary» .entry) }) (now (parents .entry)) (record { real = now («guess_real» .entry); imaginary = now («guess_imaginary» .entry) }) input s)) 64 ⌝ }
+    ensures { λ r. ⌜ reads «old_real» «old_imaginary» (λ old. reads «prediction_real» «prediction_imaginary» (λ predictions.
+        (now (real .exit) ≡ laidOut (learntAt old (now (parents .entry)) predictions input) .real)
+        × (now (imaginary .exit) ≡ laidOut (learntAt old (now (parents .entry)) predictions input) .imaginary)
+        × (now (norms .exit) ≡ upto (λ s. normOf (learntAt old (now (parents .entry)) predictions input s)) 64))) ⌝ }
 {
     let mut s = 0;
     while s < 64 {
         let prior = parents[s];
-        let guess = Complex32 {
-            real: guess_real[s],
-            imaginary: guess_imaginary[s],
+        let prediction = Complex32 {
+            real: prediction_real[s],
+            imaginary: prediction_imaginary[s],
         };
         let t = learnt(
             taps_at(old_real, old_imaginary, prior as usize),
-            subtracted(input, guess),
+            subtracted(input, prediction),
             (s % 4) as u32,
             prior as u32,
         );
@@ -91,7 +108,7 @@ fn learn(
 }
 
 // One state's part of a plane, times the gain.
-fn scale(plane: &mut [f32; 256], state: usize, gain: f32)
+fn scale(plane: &mut [f32; CHANNELS], state: usize, gain: f32)
     requires { ⌜ (state < 64) × (length (now plane) ≡ 256) ⌝ }
     ensures { λ r. ⌜ now (plane .exit) ≡ scaledColumn gain state (now (plane .entry)) ⌝ }
 {
@@ -101,20 +118,21 @@ fn scale(plane: &mut [f32; 256], state: usize, gain: f32)
     plane[state + 192] = plane[state + 192] * gain;
 }
 
-// Taps of a power above 16 are brought back to it.
-fn limit_taps(real: &mut [f32; 256], imaginary: &mut [f32; 256], state: usize, norm: f32)
+// One state's taps, brought back to a power of 16 where theirs is above it.
+fn limit_taps(real: &mut [f32; CHANNELS], imaginary: &mut [f32; CHANNELS], state: usize, norm: f32)
     requires { ⌜ (state < 64) × (length (now real) ≡ 256) × (length (now imaginary) ≡ 256) ⌝ }
     ensures { λ r. ⌜ now (real .exit) ≡ limitColumn norm state (now (real .entry)) ⌝ }
     ensures { λ r. ⌜ now (imaginary .exit) ≡ limitColumn norm state (now (imaginary .entry)) ⌝ }
 {
-    if norm > 16.0 {
-        let gain = 4.0 / sqrt32(norm);
+    if norm > MOST_POWER {
+        let gain = MOST_SIZE / sqrt32(norm);
         scale(real, state, gain);
         scale(imaginary, state, gain);
     }
 }
 
-fn limit(real: &mut [f32; 256], imaginary: &mut [f32; 256], norms: &[f32; 64])
+// The taps of every state, each limited by its own power.
+fn limit(real: &mut [f32; CHANNELS], imaginary: &mut [f32; CHANNELS], norms: &[f32; STATES])
     requires { ⌜ (length (now real) ≡ 256) × (length (now imaginary) ≡ 256) ⌝ }
     ensures { λ r. ⌜ now (real .exit) ≡ upto (limitedAt (now (norms .entry)) (now (real .entry))) 256 ⌝ }
     ensures { λ r. ⌜ now (imaginary .exit) ≡ upto (limitedAt (now (norms .entry)) (now (imaginary .entry))) 256 ⌝ }
@@ -128,15 +146,16 @@ fn limit(real: &mut [f32; 256], imaginary: &mut [f32; 256], norms: &[f32; 64])
 
 // Each state's taps are its parent's.
 fn inherit(
-    old_real: &[f32; 256],
-    old_imaginary: &[f32; 256],
-    parents: &[u8; 64],
-    real: &mut [f32; 256],
-    imaginary: &mut [f32; 256],
+    old_real: &[f32; CHANNELS],
+    old_imaginary: &[f32; CHANNELS],
+    parents: &[u8; STATES],
+    real: &mut [f32; CHANNELS],
+    imaginary: &mut [f32; CHANNELS],
 )
     requires { ⌜ Parents (now parents) × (length (now real) ≡ 256) × (length (now imaginary) ≡ 256) ⌝ }
-    ensures { λ r. ⌜ now (real .exit) ≡ laidOut (inheritedAt (record { real = now («old_real» .entry); imaginary = now («old_imaginary» .entry) }) (now (parents .entry))) .real ⌝ }
-    ensures { λ r. ⌜ now (imaginary .exit) ≡ laidOut (inheritedAt (record { real = now («old_real» .entry); imaginary = now («old_imaginary» .entry) }) (now (parents .entry))) .imaginary ⌝ }
+    ensures { λ r. ⌜ reads «old_real» «old_imaginary» (λ old.
+        (now (real .exit) ≡ laidOut (inheritedAt old (now (parents .entry))) .real)
+        × (now (imaginary .exit) ≡ laidOut (inheritedAt old (now (parents .entry))) .imaginary)) ⌝ }
 {
     let mut s = 0;
     while s < 64 {
@@ -149,27 +168,28 @@ fn inherit(
 // One step of the tracker: the channels after the step, from those before, each state's parent and
 // prediction, and the input. An unreliable input teaches nothing.
 pub fn follow(
-    real: &mut [f32; 256],
-    imaginary: &mut [f32; 256],
-    parents: &[u8; 64],
-    guess_real: &[f32; 64],
-    guess_imaginary: &[f32; 64],
+    real: &mut [f32; CHANNELS],
+    imaginary: &mut [f32; CHANNELS],
+    parents: &[u8; STATES],
+    prediction_real: &[f32; STATES],
+    prediction_imaginary: &[f32; STATES],
     input: Complex32,
     reliable: bool,
 )
     requires { ⌜ Parents (now parents) × (length (now real) ≡ 256) × (length (now imaginary) ≡ 256) ⌝ }
-    ensures { λ r. ⌜ _≡_ {A = Planes} (record { real = now (real .exit); imaginary = now (imaginary .exit) }) (followedOf (record { real = now (real .entry); imaginary = now (imaginary .entry) }) (now (parents .entry)) (record { real = now («guess_real» .entry); imaginary = now («guess_imaginary» .entry) }) input reliable) ⌝ }
+    ensures { λ r. ⌜ leaves real imaginary (λ before after. reads «prediction_real» «prediction_imaginary» (λ predictions.
+        after ≡ followedOf before (now (parents .entry)) predictions input reliable)) ⌝ }
 {
     let old_real = *real;
     let old_imaginary = *imaginary;
     if reliable {
-        let mut norms = [0.0; 64];
+        let mut norms = [0.0; STATES];
         learn(
             &old_real,
             &old_imaginary,
             parents,
-            guess_real,
-            guess_imaginary,
+            prediction_real,
+            prediction_imaginary,
             input,
             real,
             imaginary,

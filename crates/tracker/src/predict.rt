@@ -3,16 +3,19 @@ ghost use mathlib.Core.Path.{_≡_};
 ghost use Prim.Native.Nat.{_<_, _/_, _%_};
 ghost use lib.ListN.{length};
 ghost use Rattle.laws.specs.Places.{upto};
-ghost use Rattle.tracker.specs.Layout.{pastOf, predictionWith};
-ghost use Rattle.tracker.specs.Tracker.{Planes, pointAt, termOf};
+ghost use Rattle.tracker.specs.Layout.{pastOf, predictedOf};
+ghost use Rattle.tracker.specs.Lends.{reads};
+ghost use Rattle.tracker.specs.Tracker.{termOf};
+use super::CHANNELS;
+use super::PAST_TERMS;
 use super::symbols::symbol;
 use complex::Complex32;
 use complex::multiplied;
 
 // The product of the tap at a place of the planes with the symbol k.
-fn term(real: &[f32; 256], imaginary: &[f32; 256], at: usize, k: u32) -> Complex32
+fn term(real: &[f32; CHANNELS], imaginary: &[f32; CHANNELS], at: usize, k: u32) -> Complex32
     requires { ⌜ (at < 256) × (k < 4) ⌝ }
-    ensures { λ r. ⌜ r ≡ termOf (record { real = now (real .entry); imaginary = now (imaginary .entry) }) at k ⌝ }
+    ensures { λ r. ⌜ reads real imaginary (λ channels. r ≡ termOf channels at k) ⌝ }
 {
     multiplied(
         Complex32 {
@@ -26,14 +29,15 @@ fn term(real: &[f32; 256], imaginary: &[f32; 256], at: usize, k: u32) -> Complex
 // The products of the three later taps with each prior's own symbols, made once a step: that of the
 // prior p and the tap t at p + 64 (t - 1).
 pub fn past_terms(
-    real: &[f32; 256],
-    imaginary: &[f32; 256],
-    past_real: &mut [f32; 192],
-    past_imaginary: &mut [f32; 192],
+    real: &[f32; CHANNELS],
+    imaginary: &[f32; CHANNELS],
+    past_real: &mut [f32; PAST_TERMS],
+    past_imaginary: &mut [f32; PAST_TERMS],
 )
     requires { ⌜ (length (now «past_real») ≡ 192) × (length (now «past_imaginary») ≡ 192) ⌝ }
-    ensures { λ r. ⌜ now («past_real» .exit) ≡ upto (λ i. pastOf (record { real = now (real .entry); imaginary = now (imaginary .entry) }) (i / 64) (i % 64) .real) 192 ⌝ }
-    ensures { λ r. ⌜ now («past_imaginary» .exit) ≡ upto (λ i. pastOf (record { real = now (real .entry); imaginary = now (imaginary .entry) }) (i / 64) (i % 64) .imaginary) 192 ⌝ }
+    ensures { λ r. ⌜ reads real imaginary (λ channels.
+        (now («past_real» .exit) ≡ upto (λ i. pastOf channels (i / 64) (i % 64) .real) 192)
+        × (now («past_imaginary» .exit) ≡ upto (λ i. pastOf channels (i / 64) (i % 64) .imaginary) 192)) ⌝ }
 {
     let mut p = 0;
     while p < 64 {
@@ -53,15 +57,16 @@ pub fn past_terms(
 
 // The sum of the four terms, from that of the newest symbol on.
 pub fn predicted(
-    real: &[f32; 256],
-    imaginary: &[f32; 256],
-    past_real: &[f32; 192],
-    past_imaginary: &[f32; 192],
+    real: &[f32; CHANNELS],
+    imaginary: &[f32; CHANNELS],
+    past_real: &[f32; PAST_TERMS],
+    past_imaginary: &[f32; PAST_TERMS],
     newest: Complex32,
     p: usize,
 ) -> Complex32
     requires { ⌜ p < 64 ⌝ }
-    ensures { λ r. ⌜ r ≡ predictionWith (record { real = now (real .entry); imaginary = now (imaginary .entry) }) (record { real = now («past_real» .entry); imaginary = now («past_imaginary» .entry) }) newest p ⌝ }
+    ensures { λ r. ⌜ reads real imaginary (λ channels. reads «past_real» «past_imaginary» (λ past.
+        r ≡ predictedOf channels past newest p)) ⌝ }
 {
     Complex32 {
         real: 0.0

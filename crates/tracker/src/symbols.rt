@@ -1,10 +1,10 @@
-// The four symbols, a quarter turn apart, each of size 1.
+// The four symbols, each of size 1: 0 to 3 lie at 45, 135, 225 and 315 degrees.
 ghost use mathlib.Core.Path.{_≡_};
 ghost use Prim.Native.Nat.{_<_};
 ghost use Rattle.tracker.specs.Tracker.{realOf, imaginaryOf, symbolOf};
 use complex::Complex32;
 
-// 1 / sqrt(2)
+// Each part of a symbol in size: 1 / sqrt(2).
 const LEVEL: f32 = 0.70710677;
 
 fn real(k: u32) -> f32

@@ -1,5 +1,6 @@
 pub mod Trellis
 pub mod Layout
+pub mod Lends
 pub mod Runs
 pub mod Order
 pub mod Best

@@ -13,7 +13,7 @@ use Rattle.laws.specs.FloatRounding.{signed, round-signed}
 use Rattle.laws.specs.FloatSums.{In}
 use Rattle.complex.specs.declared.Complex32.{Complex32}
 use Rattle.complex.specs.Complex.{differenceOf, powerOf}
-use Rattle.trellis.specs.Trellis.{cappedOf, metricOf}
+use Rattle.trellis.specs.Trellis.{cap, cappedOf, metricOf}
 
 abbrev pub c0 : Float
 c0 = fin false 0 (pos 0)
@@ -21,7 +21,7 @@ c0 = fin false 0 (pos 0)
 abbrev pub c16 : Float
 c16 = fin false 1 (pos 4)
 
-pub sixteen : ofBits binary32 1098907648 ≡ c16
+pub sixteen : cap ≡ c16
 unfolding ofBits
 sixteen = refl
 
@@ -99,20 +99,20 @@ capped-free z h = rw sixteen (go (lt z c16))
 
 capped-fits : (z : Float) → T (fits binary32 z) → T (fits binary32 (cappedOf z))
 unfolding cappedOf
-capped-fits z h = cond-fits binary32 (lt z (ofBits binary32 1098907648)) z (ofBits binary32 1098907648) h (ofBits-fits binary32 1098907648)
+capped-fits z h = cond-fits binary32 (lt z cap) z cap h (ofBits-fits binary32 0x41800000)
 
 -- ---- the metric
-pub metric-in : (input guess : Complex32) (reliable : Bool) → In c0 c16 (metricOf input guess reliable)
+pub metric-in : (input prediction : Complex32) (reliable : Bool) → In c0 c16 (metricOf input prediction reliable)
 unfolding metricOf
-metric-in input guess true = capped-in (powerOf (differenceOf input guess)) (power-free (differenceOf input guess))
-metric-in input guess false = rw nought (unfold le in record { lower = tt; upper = tt })
+metric-in input prediction true = capped-in (powerOf (differenceOf input prediction)) (power-free (differenceOf input prediction))
+metric-in input prediction false = rw nought (unfold le in record { lower = tt; upper = tt })
 
-pub metric-free : (input guess : Complex32) (reliable : Bool) → T (free (metricOf input guess reliable))
+pub metric-free : (input prediction : Complex32) (reliable : Bool) → T (free (metricOf input prediction reliable))
 unfolding metricOf
-metric-free input guess true = capped-free (powerOf (differenceOf input guess)) (power-free (differenceOf input guess))
-metric-free input guess false = rw nought tt
+metric-free input prediction true = capped-free (powerOf (differenceOf input prediction)) (power-free (differenceOf input prediction))
+metric-free input prediction false = rw nought tt
 
-pub metric-fits : (input guess : Complex32) (reliable : Bool) → T (fits binary32 (metricOf input guess reliable))
+pub metric-fits : (input prediction : Complex32) (reliable : Bool) → T (fits binary32 (metricOf input prediction reliable))
 unfolding metricOf
-metric-fits input guess reliable =
-    cond-fits binary32 reliable (cappedOf (powerOf (differenceOf input guess))) (ofBits binary32 0) (capped-fits (powerOf (differenceOf input guess)) (add-fits binary32 _ _)) (ofBits-fits binary32 0)
+metric-fits input prediction reliable =
+    cond-fits binary32 reliable (cappedOf (powerOf (differenceOf input prediction))) (ofBits binary32 0) (capped-fits (powerOf (differenceOf input prediction)) (add-fits binary32 _ _)) (ofBits-fits binary32 0)

@@ -1,4 +1,4 @@
--- The trellis in document 01's words: the metric, the four branches to a state, the first cheapest of them, and the first cheapest state. Definitions only.
+-- The trellis (docs/SPECIFICATION.md): the metric, the four branches to a state, the first cheapest of them, and the first cheapest state. Definitions only.
 use Prim.Native.Nat.{ℕ, _+_, _/_, _%_}
 use mathlib.Core.Bool.{Bool, cond, not, _&&_, _||_}
 use mathlib.Core.List.{List}
@@ -15,14 +15,18 @@ use Rattle.trellis.specs.declared.best.Least.{Least}
 
 -- ---- the metric
 
--- at most 16, and 16 for a NaN
+-- the most that a metric can be
+abbrev pub cap : Float
+cap = ofBits binary32 0x41800000  -- 16
+
+-- at most the cap, and the cap for a NaN
 unfoldable pub cappedOf : Float → Float
-cappedOf e = cond (lt e (ofBits binary32 1098907648)) e (ofBits binary32 1098907648)
+cappedOf e = cond (lt e cap) e cap
 
 -- the squared distance, capped; zero when unreliable
 unfoldable pub metricOf : Complex32 → Complex32 → Bool → Float
 unfolding cappedOf
-metricOf input guess reliable = cond reliable (cappedOf (powerOf (differenceOf input guess))) (ofBits binary32 0)
+metricOf input prediction reliable = cond reliable (cappedOf (powerOf (differenceOf input prediction))) (ofBits binary32 0)
 
 -- ---- the branches
 
@@ -35,9 +39,12 @@ branchOf c costs input reliable k p = record {
   imaginary = predictionOf c k p .imaginary;
 }
 
+abbrev pub infinity : Float
+infinity = div binary32 (ofBits binary32 0x3f800000) (ofBits binary32 0)  -- 1 / 0
+
 -- where no sum is below infinity: parent 0, prediction zero, cost infinity
 abbrev pub noBranch : Branch
-noBranch = record { cost = div binary32 (ofBits binary32 1065353216) (ofBits binary32 0); prior = 0; real = ofBits binary32 0; imaginary = ofBits binary32 0 }
+noBranch = record { cost = infinity; prior = 0; real = ofBits binary32 0; imaginary = ofBits binary32 0 }
 
 -- y where it is cheaper, and else x: the first of equals stays
 unfoldable pub better : Branch → Branch → Branch

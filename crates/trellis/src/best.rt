@@ -6,7 +6,9 @@ ghost use lib.Ieee as Ieee;
 ghost use Rattle.laws.specs.Places.{upto};
 ghost use Rattle.trellis.specs.Trellis.{bestOf};
 ghost use Rattle.trellis.specs.Layout.{nearerOf, Plain};
+use tracker::STATES;
 
+// A state and what it costs.
 pub struct Least {
     pub state: usize,
     pub cost: f32,
@@ -24,7 +26,7 @@ fn nearer(b: Least, cost: f32, state: usize) -> Least
 }
 
 // The first cheapest state, from four quarters of the states side by side. No cost is a NaN or -0.
-pub fn cheapest(costs: &[f32; 64]) -> Least
+pub fn cheapest(costs: &[f32; STATES]) -> Least
     requires { ⌜ Plain (now costs) ⌝ }
     ensures { λ r. ⌜ r ≡ bestOf (now (costs .entry)) ⌝ }
 {
@@ -57,8 +59,8 @@ pub fn cheapest(costs: &[f32; 64]) -> Least
     nearer(abc, d.cost, d.state)
 }
 
-// One cost, taken off all.
-pub fn take_off(costs: &mut [f32; 64], least: f32)
+// Takes one cost off the costs of all states.
+pub fn take_off(costs: &mut [f32; STATES], least: f32)
     requires { ⌜ length (now costs) ≡ 64 ⌝ }
     ensures { λ r. ⌜ now (costs .exit) ≡ upto (λ s. Ieee.sub Ieee.binary32 (getD (now (costs .entry)) s Ieee.nan) least) 64 ⌝ }
 {

@@ -3,27 +3,33 @@ ghost use mathlib.Core.Path.{_≡_};
 ghost use Prim.Native.Nat.{_<_};
 ghost use lib.ListN.{length};
 ghost use Rattle.laws.specs.Places.{upto};
-ghost use Rattle.tracker.specs.Tracker.{Planes};
+ghost use Rattle.tracker.specs.Lends.{reads};
 ghost use Rattle.trellis.specs.Trellis.{cappedOf, metricOf};
 ghost use Rattle.trellis.specs.Layout.{sumWith, realWith, imaginaryWith};
 use complex::Complex32;
 use complex::power;
 use complex::subtracted;
+use tracker::CHANNELS;
+use tracker::PAST_TERMS;
+use tracker::STATES;
 use tracker::predict::predicted;
 
-// At most 16; a NaN gives 16.
+// The most that a branch's metric can be.
+const CAP: f32 = 16.0;
+
+// At most the cap; a NaN gives the cap.
 fn capped(e: f32) -> f32
     ensures { λ r. ⌜ r ≡ cappedOf e ⌝ }
 {
-    if e < 16.0 { e } else { 16.0 }
+    if e < CAP { e } else { CAP }
 }
 
 // The squared distance, capped. An unreliable input is no evidence.
-fn metric(input: Complex32, guess: Complex32, reliable: bool) -> f32
-    ensures { λ r. ⌜ r ≡ metricOf input guess reliable ⌝ }
+fn metric(input: Complex32, prediction: Complex32, reliable: bool) -> f32
+    ensures { λ r. ⌜ r ≡ metricOf input prediction reliable ⌝ }
 {
     if reliable {
-        capped(power(subtracted(input, guess)))
+        capped(power(subtracted(input, prediction)))
     } else {
         0.0
     }
@@ -31,30 +37,31 @@ fn metric(input: Complex32, guess: Complex32, reliable: bool) -> f32
 
 // From each prior by the symbol s: the prediction, and the cost so far with the metric.
 pub fn branches(
-    real: &[f32; 256],
-    imaginary: &[f32; 256],
-    past_real: &[f32; 192],
-    past_imaginary: &[f32; 192],
+    real: &[f32; CHANNELS],
+    imaginary: &[f32; CHANNELS],
+    past_real: &[f32; PAST_TERMS],
+    past_imaginary: &[f32; PAST_TERMS],
     costs: &[f32],
     s: Complex32,
     input: Complex32,
     reliable: bool,
-    sums: &mut [f32; 64],
-    guess_real: &mut [f32; 64],
-    guess_imaginary: &mut [f32; 64],
+    sums: &mut [f32; STATES],
+    prediction_real: &mut [f32; STATES],
+    prediction_imaginary: &mut [f32; STATES],
 )
-    requires { ⌜ (length (now costs) ≡ 64) × (length (now sums) ≡ 64) × (length (now «guess_real») ≡ 64) × (length (now «guess_imaginary») ≡ 64) ⌝ }
-    ensures { λ r. ⌜ now (sums .exit) ≡ upto (sumWith (record { real = now (real .entry); imaginary = now (imaginary .entry) }) (record { real = now («past_real» .entry); imaginary = now («past_imaginary» .entry) }) (now (costs .entry)) s input reliable) 64 ⌝ }
-    ensures { λ r. ⌜ now («guess_real» .exit) ≡ upto (realWith (record { real = now (real .entry); imaginary = now (imaginary .entry) }) (record { real = now («past_real» .entry); imaginary = now («past_imaginary» .entry) }) s) 64 ⌝ }
-    ensures { λ r. ⌜ now («guess_imaginary» .exit) ≡ upto (imaginaryWith (record { real = now (real .entry); imaginary = now (imaginary .entry) }) (record { real = now («past_real» .entry); imaginary = now («past_imaginary» .entry) }) s) 64 ⌝ }
+    requires { ⌜ (length (now costs) ≡ 64) × (length (now sums) ≡ 64) × (length (now «prediction_real») ≡ 64) × (length (now «prediction_imaginary») ≡ 64) ⌝ }
+    ensures { λ r. ⌜ reads real imaginary (λ channels. reads «past_real» «past_imaginary» (λ past.
+        (now (sums .exit) ≡ upto (sumWith channels past (now (costs .entry)) s input reliable) 64)
+        × (now («prediction_real» .exit) ≡ upto (realWith channels past s) 64)
+        × (now («prediction_imaginary» .exit) ≡ upto (imaginaryWith channels past s) 64))) ⌝ }
 {
     let mut p = 0;
     while p < 64 {
-        let guess = predicted(real, imaginary, past_real, past_imaginary, s, p);
-        let m = metric(input, guess, reliable);
+        let prediction = predicted(real, imaginary, past_real, past_imaginary, s, p);
+        let m = metric(input, prediction, reliable);
         sums[p] = costs[p] + m;
-        guess_real[p] = guess.real;
-        guess_imaginary[p] = guess.imaginary;
+        prediction_real[p] = prediction.real;
+        prediction_imaginary[p] = prediction.imaginary;
         p += 1;
     }
 }

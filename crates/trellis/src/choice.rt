@@ -3,10 +3,13 @@ ghost use mathlib.Core.Path.{_≡_};
 ghost use Prim.Native.Nat.{_+_, _*_, _/_, _%_, _<_, _≤_};
 ghost use lib.ListN.{length, getD};
 ghost use lib.Ieee.{nan};
-ghost use Rattle.laws.specs.Places.{upto, laid};
+ghost use Rattle.laws.specs.Places.{upto};
 ghost use Rattle.tracker.specs.Tracker.{Parents};
-ghost use Rattle.trellis.specs.Layout.{betterAt, firstAt};
+ghost use Rattle.trellis.specs.Layout.{cheaperOf, firstCheapestOf};
+ghost use Rattle.trellis.specs.Lends.{lays};
+use tracker::STATES;
 
+// A branch to a state: what it costs so far, the prior that it comes from, and what that predicts.
 pub struct Branch {
     pub cost: f32,
     pub prior: u32,
@@ -17,13 +20,13 @@ pub struct Branch {
 // The cheaper of a branch and a further prior's: the earlier of equals.
 fn cheaper(
     b: Branch,
-    sums: &[f32; 64],
-    real: &[f32; 64],
-    imaginary: &[f32; 64],
+    sums: &[f32; STATES],
+    real: &[f32; STATES],
+    imaginary: &[f32; STATES],
     prior: usize,
 ) -> Branch
     requires { ⌜ prior < 64 ⌝ }
-    ensures { λ r. ⌜ r ≡ betterAt b (now (sums .entry)) (now (real .entry)) (now (imaginary .entry)) prior ⌝ }
+    ensures { λ r. ⌜ r ≡ cheaperOf b (now (sums .entry)) (now (real .entry)) (now (imaginary .entry)) prior ⌝ }
 {
     let cost = sums[prior];
     if cost < b.cost {
@@ -39,9 +42,14 @@ fn cheaper(
 }
 
 // The first cheapest of the priors q, q + 16, q + 32, q + 48.
-fn first_cheapest(sums: &[f32; 64], real: &[f32; 64], imaginary: &[f32; 64], q: usize) -> Branch
+fn first_cheapest(
+    sums: &[f32; STATES],
+    real: &[f32; STATES],
+    imaginary: &[f32; STATES],
+    q: usize,
+) -> Branch
     requires { ⌜ q < 16 ⌝ }
-    ensures { λ r. ⌜ r ≡ firstAt (now (sums .entry)) (now (real .entry)) (now (imaginary .entry)) q ⌝ }
+    ensures { λ r. ⌜ r ≡ firstCheapestOf (now (sums .entry)) (now (real .entry)) (now (imaginary .entry)) q ⌝ }
 {
     let none = Branch {
         cost: 1.0 / 0.0,
@@ -55,22 +63,20 @@ fn first_cheapest(sums: &[f32; 64], real: &[f32; 64], imaginary: &[f32; 64], q: 
     cheaper(c, sums, real, imaginary, q + 48)
 }
 
-// The choice for each q, laid at from + q.
+// The first cheapest branch for each q below 16, laid at from + q of the four planes.
 pub fn choose(
-    sums: &[f32; 64],
-    real: &[f32; 64],
-    imaginary: &[f32; 64],
+    sums: &[f32; STATES],
+    real: &[f32; STATES],
+    imaginary: &[f32; STATES],
     from: usize,
-    cost: &mut [f32; 64],
-    prior: &mut [u32; 64],
-    chosen_real: &mut [f32; 64],
-    chosen_imaginary: &mut [f32; 64],
+    cost: &mut [f32; STATES],
+    prior: &mut [u32; STATES],
+    chosen_real: &mut [f32; STATES],
+    chosen_imaginary: &mut [f32; STATES],
 )
     requires { ⌜ from + 16 ≤ 64 ⌝ }
-    ensures { λ r. ⌜ now (cost .exit) ≡ laid (λ q. firstAt (now (sums .entry)) (now (real .entry)) (now (imaginary .entry)) q .cost) from 16 (now (cost .entry)) ⌝ }
-    ensures { λ r. ⌜ now (prior .exit) ≡ laid (λ q. firstAt (now (sums .entry)) (now (real .entry)) (now (imaginary .entry)) q .prior) from 16 (now (prior .entry)) ⌝ }
-    ensures { λ r. ⌜ now («chosen_real» .exit) ≡ laid (λ q. firstAt (now (sums .entry)) (now (real .entry)) (now (imaginary .entry)) q .real) from 16 (now («chosen_real» .entry)) ⌝ }
-    ensures { λ r. ⌜ now («chosen_imaginary» .exit) ≡ laid (λ q. firstAt (now (sums .entry)) (now (real .entry)) (now (imaginary .entry)) q .imaginary) from 16 (now («chosen_imaginary» .entry)) ⌝ }
+    ensures { λ r. ⌜ lays cost prior «chosen_real» «chosen_imaginary» from
+        (firstCheapestOf (now (sums .entry)) (now (real .entry)) (now (imaginary .entry))) ⌝ }
 {
     let mut q = 0;
     while q < 16 {
@@ -84,7 +90,7 @@ pub fn choose(
 }
 
 // From the order 16 x symbol + q to that of the states, symbol + 4 x q.
-pub fn interleave(x: &[f32; 64], out: &mut [f32])
+pub fn interleave(x: &[f32; STATES], out: &mut [f32])
     requires { ⌜ length (now out) ≡ 64 ⌝ }
     ensures { λ r. ⌜ now (out .exit) ≡ upto (λ s. getD (now (x .entry)) (16 * (s % 4) + s / 4) nan) 64 ⌝ }
 {
@@ -98,7 +104,8 @@ pub fn interleave(x: &[f32; 64], out: &mut [f32])
     }
 }
 
-pub fn interleave_priors(x: &[u32; 64], out: &mut [u8; 64])
+// The same for priors: each is below 64 and fits a byte.
+pub fn interleave_priors(x: &[u32; STATES], out: &mut [u8; STATES])
     requires { ⌜ (length (now out) ≡ 64) × Parents (now x) ⌝ }
     ensures { λ r. ⌜ now (out .exit) ≡ upto (λ s. getD (now (x .entry)) (16 * (s % 4) + s / 4) 0) 64 ⌝ }
 {

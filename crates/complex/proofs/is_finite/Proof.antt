@@ -1,4 +1,4 @@
--- `complex::is_finite` meets its contract. Assumes nothing.
+-- `is_finite` meets its contract: both parts are finite. Assumes nothing.
 use borrow.Author.Needs.{needs}
 use Rattle.complex.proofs.is_finite.Statement.{statement}
 use Rattle.complex.proofs.is_finite.Tie as tie

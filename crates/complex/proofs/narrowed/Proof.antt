@@ -1,4 +1,4 @@
--- `complex::narrowed` meets its contract. Assumes nothing.
+-- `narrowed` meets its contract: both parts are narrowed. Assumes nothing.
 use borrow.Author.Needs.{needs}
 use Rattle.complex.proofs.narrowed.Statement.{statement}
 use Rattle.complex.proofs.narrowed.Tie as tie

@@ -1,4 +1,4 @@
--- Assumes nothing.
+-- `digits` meets its contract: the trailing digits, with the hidden one where the exponent's field is not 0. Assumes nothing.
 use lib.Ieee.{binary64}
 use borrow.Author.Needs.{needs}
 use Rattle.laws.specs.FloatParts.{digits-none, digits-some}

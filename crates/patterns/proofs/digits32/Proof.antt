@@ -1,3 +1,4 @@
+-- `digits32` meets its contract: the trailing digits, with the hidden one where the exponent's field is not 0. Assumes nothing.
 use mathlib.Core.Path.{_∙_}
 use lib.Ieee.{binary32}
 use Rattle.laws.specs.FloatParts.{digits-none, digits-some}

@@ -1,4 +1,4 @@
--- Assumes nothing.
+-- `pow2` meets its contract: a shift of 1 by less than 64 places. Assumes nothing.
 use mathlib.Core.Path.{_≡_, ap, _∙_}
 use borrow.Author.Needs.{needs}
 use lib.Pow.{pow-lt}

@@ -1,4 +1,4 @@
--- Assumes nothing.
+-- `shifted` meets its contract: what is left is below a half, above it, or a half, which goes to the even quotient. Assumes nothing.
 use mathlib.Core.Path.{sym, subst}
 use lib.Ieee.{fits}
 use borrow.Author.Needs.{needs}

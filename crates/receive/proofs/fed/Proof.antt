@@ -1,4 +1,4 @@
--- `receive::fed` meets its contract. Assumes nothing.
+-- `fed` meets its contract: the step is taken over the bytes that were read. Assumes nothing.
 use mathlib.Core.Path.{sym}
 use lib.Seq.{length-take-le}
 use borrow.Author.Needs.{needs}
@@ -27,7 +27,9 @@ same-length-3 : tie.Need-same-length-3
 same-length-3 c = search needs
 
 returns : tie.Need-returns
-returns c = (search needs, c .before .before .before .before .stepped .ensures)
+returns c =
+    let stepped-says = c .before .before .before .before .stepped .ensures in
+    (search needs, stepped-says)
 
 pub fed-spec : {M : Type 1} → statement M
 fed-spec =

@@ -35,7 +35,9 @@ loop-less : tie.Need-loop-less Inv-loop μ-loop
 loop-less c = c .before .turned .ensures .1 .less
 
 loop-again : tie.Need-loop-again Inv-loop μ-loop
-loop-again c = (refl, moves-fit _ _ _ _ (c .before .turned .ensures .1) (c .before .before .before .before .before .loop .inv .1), search needs)
+loop-again c =
+    let so-far = c .before .before .before .before .before .loop .inv in
+    (refl, moves-fit _ _ _ _ (c .before .turned .ensures .1) (so-far .1), search needs)
 
 returns : tie.Need-returns Inv-loop μ-loop
 returns c = search needs

@@ -1,4 +1,4 @@
--- `receive::turned` meets its contract. Assumes nothing.
+-- `turned` meets its contract: the bytes that are waited for have room, the step over them is one turn, and what it answers is written. Assumes nothing.
 use mathlib.Core.Path.{sym}
 use lib.Seq.{length-take-le}
 use Rattle.program.specs.StepLaws.{wanted-fits, moves-gone}
@@ -38,7 +38,17 @@ same-length : tie.Need-same-length
 same-length c = search needs
 
 returns : tie.Need-returns
-returns c = (turned-is _ _ _ _ _ _ _ (c .before .before .before .before .before .before .before .before .fed .ensures .0) (waited-room (c .before .before .before .before .before .before .before .before .before .before .before .before .before .before .args .p .stage) _ _ (c .before .before .before .before .before .before .before .before .fed .last .1 .0) (c .before .before .before .before .before .before .before .before .fed .kept .1 .0) (c .before .before .before .before .before .before .before .before .before .before .before .before .wanted .ensures)) (c .before .before .before .before .before .before .before .before .fed .ensures .1 .0) (c .before .before .before .before .before .before .before .before .fed .ensures .1 .1 .0) _ (c .before .write-all .result) (c .gone-on .ensures), moves-gone _ _ (c .before .before .before .before .before .before .before .before .fed .result .program) _ (c .before .write-all .result) (c .before .before .before .before .before .before .before .before .fed .ensures .1 .1 .1 .1 .1) (c .gone-on .ensures))
+returns c =
+    let fed-says = c .before .before .before .before .before .before .before .before .fed .ensures in
+    let p = c .before .before .before .before .before .before .before .before .before .before .before .before .before .before .args .p in
+    let fed-left = c .before .before .before .before .before .before .before .before .fed .last in
+    let fed-kept = c .before .before .before .before .before .before .before .before .fed .kept in
+    let wanted-says = c .before .before .before .before .before .before .before .before .before .before .before .before .wanted .ensures in
+    let fed-gives = c .before .before .before .before .before .before .before .before .fed .result in
+    let room = waited-room (p .stage) _ _ (fed-left .1 .0) (fed-kept .1 .0) wanted-says in (
+      turned-is _ _ _ _ _ _ _ (fed-says .0) room (fed-says .1 .0) (fed-says .1 .1 .0) _ (c .before .write-all .result) (c .gone-on .ensures),
+      moves-gone _ _ (fed-gives .program) _ (c .before .write-all .result) (fed-says .1 .1 .1 .1 .1) (c .gone-on .ensures),
+    )
 
 pub turned-spec : {M : Type 1} → statement M
 turned-spec =

@@ -1,4 +1,4 @@
--- Assumes nothing.
+-- `confirmed` meets its contract: the difference that the words show is the difference of the whole numbers, so a root that is confirmed is the half root. Assumes nothing.
 use mathlib.Core.Path.{sym, subst}
 use mathlib.Core.Bool.{false≢true}
 use Prim.Native.Nat.{ℕ, _+_, _*_, _/_, _%_, _^_, _<_}
@@ -18,10 +18,10 @@ module _ (c : tie.Start) where
   q = c .args .q
 
   abbrev h : ℕ
-  h = q / 134217728
+  h = q / 0x800_0000
 
   abbrev l : ℕ
-  l = q % 134217728
+  l = q % 0x800_0000
 
   high-lt : h < 2 ^ 27
   high-lt = omega (arith, c .pre)
@@ -93,15 +93,36 @@ returns-4 : tie.Need-returns-4
 returns-4 c = λ e.
     let s = c .before .before .before .before .before in
     let first = c .before .before .before .before .wrapping-sub-u64 .result in
+    let first-is = c .before .before .before .before .wrapping-sub-u64 .ensures in
     let last = c .before .before .wrapping-sub-u642 .result in
     let small : first < 2 ^ 30 = omega (arith, c .before .before .before .if1 .left) in
     let cross : h s * l s * 2 < 2 ^ 55 = omega (arith, cross-lt s) in
     let upper : h s * h s < 2 ^ 55 = omega (arith, upper-lt s) in
     seen-half (n s) (q s) first last
-    (unwrapped first (n s / 4096 + 1) (h s * h s) (c .before .before .before .before .wrapping-sub-u64 .ensures) small upper)
-    (unwrapped last (first * 134217728 + n s % 4096 * 32768) (h s * l s * 2) (c .before .before .wrapping-sub-u642 .ensures) (c .before .if2 .left) cross)
+    (unwrapped first (n s / 4096 + 1) (h s * h s) first-is small upper)
+    (unwrapped last (first * 0x800_0000 + n s % 4096 * 32768) (h s * l s * 2) (c .before .before .wrapping-sub-u642 .ensures) (c .before .if2 .left) cross)
     (c .if3 .left)
-    (leb→le (last * 134217728) (l s * l s + 2 ^ 54 + q s) (subst T (sym e) tt))
+    (leb→le (last * 0x800_0000) (l s * l s + 2 ^ 54 + q s) (subst T (sym e) tt))
 
 pub confirmed-spec : {M : Type 1} → statement M
-confirmed-spec = tie.close (tie.spec add-wrapping-sub-u64 mul-wrapping-sub-u64 wrapping-sub-u64-requires returns mul-wrapping-sub-u64-2 mul-wrapping-sub-u64-3 add-wrapping-sub-u64-2 mul-wrapping-sub-u64-4 mul-wrapping-sub-u64-5 wrapping-sub-u64-requires-2 returns-2 mul-left mul-lower add-lower add-if3 returns-3 add-result returns-4)
+confirmed-spec =
+    tie.close
+    (tie.spec
+    add-wrapping-sub-u64
+    mul-wrapping-sub-u64
+    wrapping-sub-u64-requires
+    returns
+    mul-wrapping-sub-u64-2
+    mul-wrapping-sub-u64-3
+    add-wrapping-sub-u64-2
+    mul-wrapping-sub-u64-4
+    mul-wrapping-sub-u64-5
+    wrapping-sub-u64-requires-2
+    returns-2
+    mul-left
+    mul-lower
+    add-lower
+    add-if3
+    returns-3
+    add-result
+    returns-4)

@@ -1,4 +1,4 @@
--- Assumes nothing.
+-- `digit` meets its contract: 1 where the test holds, and else 0. Assumes nothing.
 use mathlib.Core.Path.{sym, ap}
 use mathlib.Core.Bool.{Bool, cond}
 use Prim.Native.Nat.{ℕ}

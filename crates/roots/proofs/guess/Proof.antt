@@ -1,4 +1,4 @@
--- Assumes nothing.
+-- `guess` meets its contract: whatever the floats give, the pattern that is read has 53 digits. Assumes nothing.
 use Prim.Native.Nat.{_*_, _-_, _/_, _%_, _^_, _≤_}
 use native.Mathlib.Omega.{arith}
 use lib.Ieee.{binary64}
@@ -18,7 +18,7 @@ sub-y : tie.Need-sub-y
 sub-y c = search needs
 
 float-from-bits-y : tie.Need-float-from-bits-y
-float-from-bits-y c = let h : (6910469410427058089 - c .lowered .result / 2) % 2 ^ 63 ≤ 2047 * 2 ^ 52 = omega arith in bits-number binary64 (6910469410427058089 - c .lowered .result / 2) h
+float-from-bits-y c = let h : (0x5fe6_eb50_c7b5_37a9 - c .lowered .result / 2) % 2 ^ 63 ≤ 2047 * 2 ^ 52 = omega arith in bits-number binary64 (0x5fe6_eb50_c7b5_37a9 - c .lowered .result / 2) h
 
 returns : tie.Need-returns
 returns c = search needs

@@ -1,4 +1,4 @@
--- Assumes nothing.
+-- `half_root` meets its contract: a guess that is confirmed, and else the root digit by digit, halved and rounded up. Assumes nothing.
 use mathlib.Core.Path.{_≡_}
 use Prim.Native.Nat.{ℕ, _+_, _/_, _%_}
 use native.Mathlib.Omega.{arith}

@@ -1,4 +1,4 @@
--- `roots::prepared32` meets its contract. Assumes nothing.
+-- `prepared32` meets its contract: each way out is one case of `radicandOf`. Assumes nothing.
 use lib.Ieee.{binary32, ofBits}
 use Rattle.numbers.specs.Laws.{no-nan}
 use Rattle.roots.proofs.Rooting.{nan-itself, zero-itself, sign-negative, infinity-itself, digits-read}
@@ -22,7 +22,9 @@ returns-3 c = sign-negative binary32 (c .before .before .before .args .x) (c .be
 
 returns-4 : tie.Need-returns-4
 unfolding ofBits
-returns-4 c = infinity-itself binary32 (c .before .before .before .before .args .x) (c .before .before .before .if1 .left) (c .before .before .if2 .left) (c .before .if3 .left) (c .if4 .taken)
+returns-4 c =
+    let x = c .before .before .before .before .args .x in
+    infinity-itself binary32 x (c .before .before .before .if1 .left) (c .before .before .if2 .left) (c .before .if3 .left) (c .if4 .taken)
 
 digits32-requires : tie.Need-digits32-requires
 digits32-requires c κs = search needs
@@ -32,7 +34,11 @@ power32-requires c κs = search needs
 
 returns-5 : tie.Need-returns-5
 unfolding ofBits
-returns-5 c = digits-read binary32 (c .before .before .before .before .before .before .args .x) (c .before .before .before .before .before .if1 .left) (c .before .before .before .before .if2 .left) (c .before .digits32 .result) (c .power32 .result) (c .before .before .before .if3 .left) (c .before .before .if4 .left) (c .before .digits32 .ensures) (c .power32 .ensures)
+returns-5 c =
+    let x = c .before .before .before .before .before .before .args .x in
+    let test1-fails = c .before .before .before .before .before .if1 .left in
+    let test2-fails = c .before .before .before .before .if2 .left in
+    digits-read binary32 x test1-fails test2-fails (c .before .digits32 .result) (c .power32 .result) (c .before .before .before .if3 .left) (c .before .before .if4 .left) (c .before .digits32 .ensures) (c .power32 .ensures)
 
 pub prepared32-spec : {M : Type 1} → statement M
 prepared32-spec =

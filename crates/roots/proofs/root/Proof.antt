@@ -1,4 +1,4 @@
--- Assumes nothing.
+-- `root` meets its contract: after each digit the root so far and what is left make up the digits read so far. Assumes nothing.
 use mathlib.Core.Path.{subst}
 use lib.Ieee.{fits}
 use native.Mathlib.Omega.{arith}

@@ -1,4 +1,4 @@
--- `roots::sqrt` meets its contract. Assumes nothing.
+-- `sqrt` meets its contract: the number itself, a NaN, or the root of its digits. Assumes nothing.
 use mathlib.Core.Path.{sym, _∙_, subst}
 use lib.Dec.{T}
 use lib.Ieee.{binary64, ofBits, div, fits}

@@ -1,4 +1,4 @@
--- Assumes nothing.
+-- `sqrt32_finite` meets its contract: the root of the digits at an even place has one digit more than the format, and that digit rounds. Assumes nothing.
 use mathlib.Core.Path.{_≡_, refl, sym, subst}
 use mathlib.Core.Bool.{false}
 use lib.Dec.{T}

@@ -1,4 +1,4 @@
--- Assumes nothing.
+-- `sqrt_finite` meets its contract: the half root of the digits at an even place is the rounded root. Assumes nothing.
 use mathlib.Core.Path.{_≡_, refl, sym, subst}
 use mathlib.Core.Bool.{false}
 use lib.Dec.{T}
@@ -83,12 +83,12 @@ module _ (c : tie.After-half-root) where
   half : q ≤ 2 ^ 53
   half = subst (λ (x : ℕ). x ≤ 2 ^ 53) (halved c .half) (half-le binary64 (d c) p z (w c) ((p + z) % 2) ((p + 1032 - y a) / 2) 1032 (leads a) (bit-le (p + z)) even refl (deep-64 (y a)) (halved c .least) (halved c .most))
 
-  small : (p + 1032 - y a) / 2 * 4503599627370496 + q < 2047 * 4503599627370496
+  small : (p + 1032 - y a) / 2 * 0x10_0000_0000_0000 + q < 2047 * 0x10_0000_0000_0000
   small = small-64 p (y a) q (a .before .pre .1 .1) half
 
-  rooted : roundRoot binary64 (d c * 2 ^ p) (2 ^ 1074) ≡ ofBits binary64 ((p + 1032 - y a) / 2 * 4503599627370496 + q)
+  rooted : roundRoot binary64 (d c * 2 ^ p) (2 ^ 1074) ≡ ofBits binary64 ((p + 1032 - y a) / 2 * 0x10_0000_0000_0000 + q)
   rooted =
-      subst (λ (x : ℕ). (p + 1032 - y a) / 2 * 4503599627370496 + x < 2047 * 4503599627370496 → roundRoot binary64 (d c * 2 ^ p) (2 ^ 1074) ≡ ofBits binary64 ((p + 1032 - y a) / 2 * 4503599627370496 + x)) (halved c .half)
+      subst (λ (x : ℕ). (p + 1032 - y a) / 2 * 0x10_0000_0000_0000 + x < 2047 * 0x10_0000_0000_0000 → roundRoot binary64 (d c * 2 ^ p) (2 ^ 1074) ≡ ofBits binary64 ((p + 1032 - y a) / 2 * 0x10_0000_0000_0000 + x)) (halved c .half)
       (is-root binary64 (d c) p z (w c) ((p + z) % 2) ((p + 1032 - y a) / 2) 1032 (leads a) (bit-le (p + z)) even refl (deep-64 (y a)) (halved c .least) (halved c .most))
       small
 
@@ -97,7 +97,7 @@ add-result-2 c = omega (arith, half c)
 
 float-from-bits-result : tie.Need-float-from-bits-result
 float-from-bits-result c =
-    let b = (p c + 1032 - y (a c)) / 2 * 4503599627370496 + q c in
+    let b = (p c + 1032 - y (a c)) / 2 * 0x10_0000_0000_0000 + q c in
     subst (λ (x : ℕ). T (not (nanBits binary64 x))) (zero-add b) (no-nan-bits binary64 false b (le-of-lt (small c)))
 
 returns : tie.Need-returns

@@ -1,4 +1,4 @@
--- `numbers::bits::decoded` meets its contract. Assumes nothing.
+-- `bits::decoded` meets its contract: the two words of the bytes make the pattern, lowest byte first. Assumes nothing.
 use mathlib.Core.Path.{ap, _∙_}
 use Prim.Native.Nat.{ℕ, _+_, _*_, _^_}
 use lib.ListN.{getD}

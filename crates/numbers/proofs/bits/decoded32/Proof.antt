@@ -1,4 +1,4 @@
--- `numbers::bits::decoded32` meets its contract. Assumes nothing.
+-- `bits::decoded32` meets its contract: the word of the bytes is the pattern. Assumes nothing.
 use mathlib.Core.Path.{ap, _∙_}
 use lib.Ieee.{binary32, ofBits}
 use Rattle.numbers.specs.BitsLaws.{four-bytes}

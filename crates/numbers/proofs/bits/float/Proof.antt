@@ -1,4 +1,4 @@
--- `numbers::bits::float` meets its contract. Assumes nothing.
+-- `bits::float` meets its contract: a pattern beyond the infinity is that of a NaN, and every other one is read as it stands. Assumes nothing.
 use lib.Ieee.{binary64, ofBits, div}
 use Rattle.numbers.specs.BitsLaws.{bits-nan, bits-number}
 use borrow.Author.Needs.{needs}

@@ -1,4 +1,4 @@
--- `numbers::bits::pattern` meets its contract. Assumes nothing.
+-- `bits::pattern` meets its contract: a NaN has the one pattern that `toBits` gives it, and every other value its own. Assumes nothing.
 use lib.Ieee.{binary64, toBits}
 use Rattle.numbers.specs.Laws.{no-nan}
 use Rattle.numbers.specs.BitsLaws.{nan-bits}

@@ -1,4 +1,4 @@
--- `numbers::bits::signed` meets its contract. Assumes nothing.
+-- `bits::signed` meets its contract: below 2 ^ 63 the number itself, and else the number less 2 ^ 64. Assumes nothing.
 use mathlib.Core.Path.{_∙_}
 use Prim.Native.Nat.{_-_, _^_}
 use native.Mathlib.Omega.{arith}

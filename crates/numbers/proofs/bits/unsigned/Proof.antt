@@ -1,4 +1,4 @@
--- `numbers::bits::unsigned` meets its contract. Assumes nothing.
+-- `bits::unsigned` meets its contract: a number below 0 is given with 2 ^ 64 added. Assumes nothing.
 use native.Mathlib.Omega.{arith}
 use mir.Syntax.{w64}
 use mir.Val.{SFits}

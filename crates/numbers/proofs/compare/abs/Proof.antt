@@ -1,4 +1,4 @@
--- `numbers::compare::abs` meets its contract. Assumes nothing.
+-- `compare::abs` meets its contract: the pattern without its highest bit is the pattern of the size. Assumes nothing.
 use mathlib.Core.Path.{sym, subst}
 use lib.Dec.{T}
 use lib.Ieee.{binary64}

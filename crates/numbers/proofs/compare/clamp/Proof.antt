@@ -1,4 +1,4 @@
--- `numbers::compare::clamp` meets its contract. Assumes nothing.
+-- `compare::clamp` meets its contract: each way out is one case of `clampOf`. Assumes nothing.
 use Rattle.numbers.specs.Laws.{clamp-1, clamp-2, clamp-3}
 use Rattle.numbers.proofs.compare.clamp.Statement.{statement}
 use Rattle.numbers.proofs.compare.clamp.Tie as tie

@@ -1,4 +1,4 @@
--- `numbers::compare::clamp32` meets its contract. Assumes nothing.
+-- `compare::clamp32` meets its contract: each way out is one case of `clampOf`. Assumes nothing.
 use Rattle.numbers.specs.Laws.{clamp-1, clamp-2, clamp-3}
 use Rattle.numbers.proofs.compare.clamp32.Statement.{statement}
 use Rattle.numbers.proofs.compare.clamp32.Tie as tie

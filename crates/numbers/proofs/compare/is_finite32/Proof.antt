@@ -1,4 +1,4 @@
--- `numbers::compare::is_finite32` meets its contract. Assumes nothing.
+-- `compare::is_finite32` meets its contract: only of a finite value is the difference from itself zero. Assumes nothing.
 use lib.Ieee.{binary32, ofBits}
 use Rattle.numbers.specs.Laws.{finite-is}
 use Rattle.numbers.proofs.compare.is_finite32.Statement.{statement}

@@ -1,4 +1,4 @@
--- `numbers::compare::is_nan` meets its contract. Assumes nothing.
+-- `compare::is_nan` meets its contract: only a NaN differs from itself. Assumes nothing.
 use Rattle.numbers.specs.Laws.{ne-self}
 use Rattle.numbers.proofs.compare.is_nan.Statement.{statement}
 use Rattle.numbers.proofs.compare.is_nan.Tie as tie

@@ -1,4 +1,4 @@
--- `numbers::compare::is_negative` meets its contract. Assumes nothing.
+-- `compare::is_negative` meets its contract: a NaN has no sign, and of every other value the pattern's highest bit is the sign. Assumes nothing.
 use mathlib.Core.Path.{sym, subst}
 use lib.Dec.{T}
 use lib.Ieee.{binary64}

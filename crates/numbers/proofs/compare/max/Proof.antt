@@ -1,4 +1,4 @@
--- `numbers::compare::max` meets its contract. Assumes nothing.
+-- `compare::max` meets its contract: each way out is one case of `maxOf`. Assumes nothing.
 use mathlib.Core.Path.{sym, _∙_}
 use borrow.Author.Needs.{needs}
 use mathlib.Core.Bool.{true, false}

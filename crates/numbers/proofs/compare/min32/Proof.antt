@@ -1,4 +1,4 @@
--- `numbers::compare::min32` meets its contract. Assumes nothing.
+-- `compare::min32` meets its contract: each way out is one case of `minOf`. Assumes nothing.
 use mathlib.Core.Path.{sym, _∙_}
 use borrow.Author.Needs.{needs}
 use mathlib.Core.Bool.{true, false}

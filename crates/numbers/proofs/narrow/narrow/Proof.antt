@@ -1,4 +1,4 @@
--- `numbers::narrow::narrow` meets its contract. Assumes nothing.
+-- `narrow::narrow` meets its contract: a NaN, an infinity, a rare magnitude and an everyday one are each converted as IEEE 754 asks. Assumes nothing.
 use mathlib.Core.Path.{_≡_, sym, ap, _∙_, subst}
 use mathlib.Core.Bool.{Bool, not}
 use Prim.Native.Nat.{ℕ, _+_, _-_, _*_, _^_, _<_, _≤_}
@@ -24,7 +24,7 @@ abbrev bits : tie.Start → ℕ
 bits c = toBits binary64 (c .args .x)
 
 abbrev sgn : tie.Start → Bool
-sgn c = leb 9223372036854775808 (bits c)
+sgn c = leb 0x8000_0000_0000_0000 (bits c)
 
 -- past the first two tests the exponent's field is below the infinity's, and the value is that of the bits
 finite : (c : tie.Else2) → field binary64 (bits (c .before .before)) < 2047
@@ -49,15 +49,15 @@ sign32-requires : tie.Need-sign32-requires
 sign32-requires c κs = search needs
 
 add-result : tie.Need-add-result
-add-result c = fits-of-lt (subst (λ (x : ℕ). x + 2139095040 < 2 ^ 32) (sym (c .sign32 .ensures)) (pattern-lt (sgn (c .before .before .before)) 2139095040 (omega arith)))
+add-result c = fits-of-lt (subst (λ (x : ℕ). x + 0x7f80_0000 < 2 ^ 32) (sym (c .sign32 .ensures)) (pattern-lt (sgn (c .before .before .before)) 0x7f80_0000 (omega arith)))
 
 float-from-bits-result : tie.Need-float-from-bits-result
-float-from-bits-result c = subst (λ (x : ℕ). T (not (nanBits binary32 (x + 2139095040)))) (sym (c .sign32 .ensures)) (no-nan-bits binary32 (sgn (c .before .before .before)) 2139095040 (omega arith))
+float-from-bits-result c = subst (λ (x : ℕ). T (not (nanBits binary32 (x + 0x7f80_0000)))) (sym (c .sign32 .ensures)) (no-nan-bits binary32 (sgn (c .before .before .before)) 0x7f80_0000 (omega arith))
 
 returns-2 : tie.Need-returns-2
 returns-2 c =
     let a = c .before .before .before in
-    ap (λ (x : ℕ). ofBits binary32 (x + 2139095040)) (c .sign32 .ensures) ∙ inf-bits binary32 (sgn a) ∙ convert-inf binary32 binary64 (a .args .x) (held a) (c .before .if2 .taken)
+    ap (λ (x : ℕ). ofBits binary32 (x + 0x7f80_0000)) (c .sign32 .ensures) ∙ inf-bits binary32 (sgn a) ∙ convert-inf binary32 binary64 (a .args .x) (held a) (c .before .if2 .taken)
 
 is-rare-requires : tie.Need-is-rare-requires
 is-rare-requires c κs = search needs

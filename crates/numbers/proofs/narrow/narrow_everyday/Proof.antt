@@ -1,4 +1,4 @@
--- `numbers::narrow::narrow_everyday` meets its contract. Assumes nothing.
+-- `narrow::narrow_everyday` meets its contract: the digits are rounded in place, with the exponent's bias exchanged. Assumes nothing.
 use mathlib.Core.Path.{_≡_, sym, ap, _∙_, subst}
 use mathlib.Core.Bool.{not, cond}
 use Prim.Native.Nat.{ℕ, _+_, _*_, _/_, _^_, _<_, _≤_}
@@ -24,15 +24,15 @@ fits-b : (c : tie.Start) → b c < 2 ^ 64
 fits-b c = omega (arith, c .fits .b)
 
 -- the sign's bit and the pattern
-whole : (c : tie.Start) → b c / 9223372036854775808 * 2147483648 + kept (b c) (day c) ≡ cond (leb 9223372036854775808 (b c)) 2147483648 0 + kept (b c) (day c)
+whole : (c : tie.Start) → b c / 0x8000_0000_0000_0000 * 0x8000_0000 + kept (b c) (day c) ≡ cond (leb 0x8000_0000_0000_0000 (b c)) 0x8000_0000 0 + kept (b c) (day c)
 whole c = ap (λ (x : ℕ). x + kept (b c) (day c)) (sign-bit (b c) (fits-b c))
 
 -- 32 bits and no NaN's pattern, whatever the digits round to
-below : (b z : ℕ) → b < 2 ^ 64 → z ≤ 2139095040 → b / 9223372036854775808 * 2147483648 + z < 2 ^ 32
+below : (b z : ℕ) → b < 2 ^ 64 → z ≤ 0x7f80_0000 → b / 0x8000_0000_0000_0000 * 0x8000_0000 + z < 2 ^ 32
 below b z h k = omega arith
 
-plain : (b z : ℕ) → b < 2 ^ 64 → z ≤ 2139095040 → T (not (nanBits binary32 (b / 9223372036854775808 * 2147483648 + z)))
-plain b z h k = subst (λ (x : ℕ). T (not (nanBits binary32 (x + z)))) (sym (sign-bit b h)) (no-nan-bits binary32 (leb 9223372036854775808 b) z k)
+plain : (b z : ℕ) → b < 2 ^ 64 → z ≤ 0x7f80_0000 → T (not (nanBits binary32 (b / 0x8000_0000_0000_0000 * 0x8000_0000 + z)))
+plain b z h k = subst (λ (x : ℕ). T (not (nanBits binary32 (x + z)))) (sym (sign-bit b h)) (no-nan-bits binary32 (leb 0x8000_0000_0000_0000 b) z k)
 
 sub-t : tie.Need-sub-t
 sub-t c = let h = day c .least in omega arith
@@ -56,7 +56,7 @@ float-from-bits-result : tie.Need-float-from-bits-result
 float-from-bits-result c = plain (b c) _ (fits-b c) (omega (arith, day c .least, day c .most))
 
 returns : tie.Need-returns
-returns c = ap (ofBits binary32) (whole c) ∙ everyday-is (b c) (day c) (leb 9223372036854775808 (b c))
+returns c = ap (ofBits binary32) (whole c) ∙ everyday-is (b c) (day c) (leb 0x8000_0000_0000_0000 (b c))
 
 pub narrow-everyday-spec : {M : Type 1} → statement M
 narrow-everyday-spec =

@@ -1,4 +1,4 @@
--- Assumes nothing.
+-- `narrow::narrow_finite` meets its contract: the digits are moved to a fixed place and rounded once, with a subnormal result and overflow. Assumes nothing.
 use mathlib.Core.Path.{refl, sym, ap, _∙_, subst}
 use mathlib.Core.Bool.{Bool, cond}
 use lib.Dec.{T}
@@ -64,10 +64,14 @@ kept c =
     (kept-le (a .d) (a .e) (w .wide .result) (w .before .pre .0) (w .before .pre .1 .0) (normal w) (l .less .result) (l .less .result + w .wide .result + 924 - a .e) (l .less .ensures) refl)
 
 mul-least : tie.Need-mul-least
-mul-least c = omega (arith, c .before .less .ensures, c .before .before .before .before .pre)
+mul-least c =
+    let asked = c .before .before .before .before .pre in
+    omega (arith, c .before .less .ensures, asked)
 
 add-least : tie.Need-add-least
-add-least c = omega (arith, kept c, c .before .less .ensures, c .before .before .before .before .pre)
+add-least c =
+    let asked = c .before .before .before .before .pre in
+    omega (arith, kept c, c .before .less .ensures, asked)
 
 least-requires : tie.Need-least-requires
 least-requires c κs = search needs
@@ -81,8 +85,8 @@ cast-result c = search needs
 abbrev sgn : tie.After-sign32 → Bool
 sgn c = c .before .before .before .before .before .before .args .s
 
-capped : (c : tie.After-sign32) → c .before .least .result ≤ 2139095040
-capped c = subst (λ (x : ℕ). x ≤ 2139095040) (sym (c .before .least .ensures)) (min-le (c .before .before .before .less .result * 8388608 + c .before .before .shifted .result) 2139095040)
+capped : (c : tie.After-sign32) → c .before .least .result ≤ 0x7f80_0000
+capped c = subst (λ (x : ℕ). x ≤ 0x7f80_0000) (sym (c .before .least .ensures)) (min-le (c .before .before .before .less .result * 8388608 + c .before .before .shifted .result) 0x7f80_0000)
 
 add-result : tie.Need-add-result
 add-result c = fits-of-lt (subst (λ (x : ℕ). x + c .before .least .result < 2 ^ 32) (sym (c .sign32 .ensures)) (pattern-lt (sgn c) (c .before .least .result) (capped c)))
@@ -99,9 +103,9 @@ returns c =
     let k = l .less .result in
     let sh = k + w .wide .result + 924 - a .e in
     sym (narrowed (a .d) (a .e) (w .wide .result) (w .before .pre .0) (w .before .pre .1 .0) (normal w) (a .s) k sh (l .less .ensures) refl
-    ∙ ap (λ (x : ℕ). ofBits binary32 (cond (a .s) 2147483648 0 + min (k * 8388608 + closest (a .d * x) (2 ^ sh)) 2139095040)) (sym (l .before .pow2 .ensures))
-    ∙ ap (λ (x : ℕ). ofBits binary32 (cond (a .s) 2147483648 0 + min (k * 8388608 + x) 2139095040)) (sym (h .shifted .ensures))
-    ∙ ap (λ (x : ℕ). ofBits binary32 (cond (a .s) 2147483648 0 + x)) (sym (c .before .least .ensures))
+    ∙ ap (λ (x : ℕ). ofBits binary32 (cond (a .s) 0x8000_0000 0 + min (k * 8388608 + closest (a .d * x) (2 ^ sh)) 0x7f80_0000)) (sym (l .before .pow2 .ensures))
+    ∙ ap (λ (x : ℕ). ofBits binary32 (cond (a .s) 0x8000_0000 0 + min (k * 8388608 + x) 0x7f80_0000)) (sym (h .shifted .ensures))
+    ∙ ap (λ (x : ℕ). ofBits binary32 (cond (a .s) 0x8000_0000 0 + x)) (sym (c .before .least .ensures))
     ∙ ap (λ (x : ℕ). ofBits binary32 (x + c .before .least .result)) (sym (c .sign32 .ensures)))
 
 pub narrow-finite-spec : {M : Type 1} → statement M

@@ -1,4 +1,4 @@
--- `numbers::whole::floor` meets its contract. Assumes nothing.
+-- `whole::floor` meets its contract: a value without digits below the point is whole, and every other one goes toward minus infinity. Assumes nothing.
 use mathlib.Core.Path.{_≡_, sym, ap, _∙_, subst}
 use mathlib.Core.Bool.{Bool}
 use Prim.Native.Nat.{ℕ, _^_, _≤_, _<_}

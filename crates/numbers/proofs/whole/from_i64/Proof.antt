@@ -1,4 +1,4 @@
--- `numbers::whole::from_i64` meets its contract. Assumes nothing.
+-- `whole::from_i64` meets its contract: the size is converted, and the sign is put on. Assumes nothing.
 use Rattle.numbers.proofs.Integers.{int-neg, int-pos}
 use borrow.Author.Needs.{needs}
 use Rattle.numbers.proofs.whole.from_i64.Statement.{statement}

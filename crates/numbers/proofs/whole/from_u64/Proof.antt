@@ -1,4 +1,4 @@
--- Assumes nothing.
+-- `whole::from_u64` meets its contract: the digits are moved to the highest place and rounded once. Assumes nothing.
 use mathlib.Core.Path.{_≡_, sym, ap, _∙_, subst}
 use mathlib.Core.Bool.{false}
 use lib.Dec.{T}
@@ -47,19 +47,19 @@ shifted-requires c κs = search needs
 is-kept : (c : tie.After-shifted) → c .shifted .result ≡ closest (c .before .before .before .before .args .n * 2 ^ c .before .before .wide .result) (2 ^ 11)
 is-kept c = c .shifted .ensures ∙ ap (λ (x : ℕ). closest (c .before .before .before .before .args .n * x) (2 ^ 11)) (c .before .pow2 .ensures)
 
-small : (c : tie.After-shifted) → (1085 - c .before .before .wide .result) * 4503599627370496 + c .shifted .result < 2047 * 4503599627370496
-small c = let z = c .before .before .wide .result in subst (λ (x : ℕ). (1085 - z) * 4503599627370496 + x < 2047 * 4503599627370496) (sym (is-kept c)) (pattern-lt (c .before .before .before .before .args .n) z (highs (c .before .before)))
+small : (c : tie.After-shifted) → (1085 - c .before .before .wide .result) * 0x10_0000_0000_0000 + c .shifted .result < 2047 * 0x10_0000_0000_0000
+small c = let z = c .before .before .wide .result in subst (λ (x : ℕ). (1085 - z) * 0x10_0000_0000_0000 + x < 2047 * 0x10_0000_0000_0000) (sym (is-kept c)) (pattern-lt (c .before .before .before .before .args .n) z (highs (c .before .before)))
 
 add-result : tie.Need-add-result
 add-result c = omega (arith, small c)
 
 float-from-bits-result : tie.Need-float-from-bits-result
 float-from-bits-result c =
-    let p = (1085 - c .before .before .wide .result) * 4503599627370496 + c .shifted .result in
+    let p = (1085 - c .before .before .wide .result) * 0x10_0000_0000_0000 + c .shifted .result in
     subst (λ (x : ℕ). T (not (nanBits binary64 x))) (zero-add p) (no-nan-bits binary64 false p (le-of-lt (small c)))
 
 returns-2 : tie.Need-returns-2
-returns-2 c = let z = c .before .before .wide .result in ap (λ (x : ℕ). ofBits binary64 ((1085 - z) * 4503599627370496 + x)) (is-kept c) ∙ is-float (c .before .before .before .before .args .n) z (highs (c .before .before))
+returns-2 c = let z = c .before .before .wide .result in ap (λ (x : ℕ). ofBits binary64 ((1085 - z) * 0x10_0000_0000_0000 + x)) (is-kept c) ∙ is-float (c .before .before .before .before .args .n) z (highs (c .before .before))
 
 pub from-u64-spec : {M : Type 1} → statement M
 from-u64-spec = tie.close (tie.spec returns wide-requires sub-result mul-result pow2-requires mul-shifted shifted-requires add-result float-from-bits-result returns-2)

@@ -1,4 +1,4 @@
--- `numbers::whole::round` meets its contract. Assumes nothing.
+-- `whole::round` meets its contract: a value without digits below the point is whole, and of every other one a half goes away from zero. Assumes nothing.
 use mathlib.Core.Path.{_≡_, sym, ap, _∙_, subst}
 use mathlib.Core.Bool.{Bool}
 use Prim.Native.Nat.{ℕ, _^_, _≤_, _<_}

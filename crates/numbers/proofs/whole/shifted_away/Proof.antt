@@ -1,4 +1,4 @@
--- Assumes nothing.
+-- `whole::shifted_away` meets its contract: a shift of 64 and more leaves nothing of 53 bits, and every other one rounds a half upwards. Assumes nothing.
 use mathlib.Core.Path.{sym, subst}
 use borrow.Author.Needs.{needs}
 use Prim.Native.Nat.{ℕ, _^_, _<_, _≤_, _-_}

@@ -1,4 +1,4 @@
--- Assumes nothing.
+-- `whole::shifted_down` meets its contract: a quotient, and one more where a value below zero leaves a rest. Assumes nothing.
 use mathlib.Core.Path.{_≡_, refl, sym, ap, _∙_, subst}
 use mathlib.Core.Bool.{true, false}
 use borrow.Author.Needs.{needs}

@@ -1,4 +1,4 @@
--- `numbers::whole::signed` meets its contract. Assumes nothing.
+-- `whole::signed` meets its contract: a whole number of at most 2 ^ 53 is exact, and the sign is put on. Assumes nothing.
 use mathlib.Core.Path.{sym, ap, _∙_}
 use mathlib.Core.Bool.{Bool, false}
 use lib.Ieee.{binary64}

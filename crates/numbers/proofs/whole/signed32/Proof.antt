@@ -1,4 +1,4 @@
--- `numbers::whole::signed32` meets its contract. Assumes nothing.
+-- `whole::signed32` meets its contract: a whole number of at most 2 ^ 24 is exact, and the sign is put on. Assumes nothing.
 use mathlib.Core.Path.{sym, ap, _∙_}
 use mathlib.Core.Bool.{Bool, false}
 use lib.Ieee.{binary32}

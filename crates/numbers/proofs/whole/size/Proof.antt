@@ -1,4 +1,4 @@
--- `numbers::whole::size` meets its contract. Assumes nothing.
+-- `whole::size` meets its contract: the size of the least i64 is taken without overflow. Assumes nothing.
 use native.Mathlib.Omega.{arith}
 use native.Mathlib.Numerals.{add-one}
 use mir.Syntax.{w64}

@@ -1,4 +1,4 @@
--- `numbers::whole::split32` meets its contract. Assumes nothing.
+-- `whole::split32` meets its contract: a NaN, an infinity and a whole value have no digits below the point, and every other value has these. Assumes nothing.
 use lib.Ieee.{binary32}
 use Rattle.numbers.specs.Laws.{no-nan}
 use Rattle.numbers.proofs.ToWhole.{nothing-nan, nothing-big, parts-small}

@@ -1,4 +1,4 @@
--- `numbers::whole::to_i64` meets its contract. Assumes nothing.
+-- `whole::to_i64` meets its contract: toward zero within the range, the nearer end beyond it, and 0 for a NaN. Assumes nothing.
 use mathlib.Core.Path.{sym, subst}
 use lib.Dec.{T}
 use lib.Ieee.{ofBits}

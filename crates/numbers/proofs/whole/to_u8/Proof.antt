@@ -1,4 +1,4 @@
--- `numbers::whole::to_u8` meets its contract. Assumes nothing.
+-- `whole::to_u8` meets its contract: toward zero within the range, the nearer end beyond it, and 0 for a NaN. Assumes nothing.
 use mathlib.Core.Path.{_≡_, sym, _∙_, subst}
 use lib.Dec.{lit≤}
 use lib.Ieee.{ofBits, toUnsigned}

@@ -1,4 +1,4 @@
--- `recording::decode::count` meets its contract. Assumes nothing.
+-- `decode::count` meets its contract: the four bytes from the place on, lowest first. Assumes nothing.
 use mathlib.Core.Path.{_∙_}
 use Rattle.recording.specs.DecodeLaws.{word-four}
 use borrow.Author.Needs.{needs}

@@ -1,4 +1,4 @@
--- `recording::decode::float` meets its contract. Assumes nothing.
+-- `decode::float` meets its contract: the float of the eight bytes from the place on. Assumes nothing.
 use mathlib.Core.Path.{ap, _∙_}
 use lib.Ieee.{binary64, ofBits}
 use Rattle.recording.specs.DecodeLaws.{word-eight}

@@ -1,4 +1,4 @@
--- `recording::decode::float32` meets its contract. Assumes nothing.
+-- `decode::float32` meets its contract: the float of the four bytes from the place on. Assumes nothing.
 use mathlib.Core.Path.{ap, _∙_}
 use lib.Ieee.{binary32, ofBits}
 use Rattle.recording.specs.DecodeLaws.{word-four}

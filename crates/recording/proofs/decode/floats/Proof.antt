@@ -1,4 +1,4 @@
--- `recording::decode::floats` meets its contract. Assumes nothing.
+-- `decode::floats` meets its contract: each turn of the loop stores one float, and what lies after them stays. Assumes nothing.
 use mathlib.Core.Path.{_≡_, refl}
 use Prim.Native.Nat.{_-_, _≤_}
 use lib.ListN.{length}

@@ -1,4 +1,4 @@
--- `recording::text::byte` meets its contract. Assumes nothing.
+-- `text::byte` meets its contract: a byte has at most three digits, so the text fits into four places. Assumes nothing.
 use Rattle.recording.specs.TextLaws.{byte-fits, byte-near, put-room}
 use borrow.Author.Needs.{needs}
 use Rattle.recording.proofs.text.byte.Statement.{statement}

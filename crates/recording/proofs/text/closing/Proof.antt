@@ -1,4 +1,4 @@
--- `recording::text::closing` meets its contract. Assumes nothing.
+-- `text::closing` meets its contract: the four fields one after the other, and their room. Assumes nothing.
 use Rattle.recording.specs.TextLaws.{closing-put}
 use borrow.Author.Needs.{needs}
 use Rattle.recording.proofs.text.closing.Statement.{statement}
@@ -36,7 +36,11 @@ same-length c = search needs
 
 returns : tie.Need-returns
 returns c =
-    (closing-put _ _ _ _ _ _ _ (c .before .before .before .before .before .before .before .before .before .flag .ensures) (c .before .before .before .before .before .before .before .before .before .before .before .before .before .before .before .before .before .before .field .ensures .0) (c .before .before .before .before .before .before .before .before .before .before .before .before .before .field2 .ensures .0) (c .before .before .before .before .before .before .before .field3 .ensures .0) (c .before .before .field4 .ensures .0), (search needs, search needs))
+    let flag-says = c .before .before .before .before .before .before .before .before .before .flag .ensures in
+    let field-says = c .before .before .before .before .before .before .before .before .before .before .before .before .before .before .before .before .before .before .field .ensures in
+    let field2-says = c .before .before .before .before .before .before .before .before .before .before .before .before .before .field2 .ensures in
+    let field3-says = c .before .before .before .before .before .before .before .field3 .ensures in
+    (closing-put _ _ _ _ _ _ _ flag-says (field-says .0) (field2-says .0) (field3-says .0) (c .before .before .field4 .ensures .0), (search needs, search needs))
 
 pub closing-spec : {M : Type 1} → statement M
 closing-spec =

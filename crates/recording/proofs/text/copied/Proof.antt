@@ -1,4 +1,4 @@
--- `recording::text::copied` meets its contract. Assumes nothing.
+-- `text::copied` meets its contract: each turn of the loop stores one character. Assumes nothing.
 use mathlib.Core.Path.{_≡_, refl}
 use Prim.Native.Nat.{_-_, _≤_}
 use lib.ListN.{length}

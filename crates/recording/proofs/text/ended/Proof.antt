@@ -1,4 +1,4 @@
--- `recording::text::ended` meets its contract. Assumes nothing.
+-- `text::ended` meets its contract: the digits, and after them the character. Assumes nothing.
 use Rattle.recording.specs.TextLaws.{ended-number, ended-last, ended-put}
 use borrow.Author.Needs.{needs}
 use Rattle.recording.proofs.text.ended.Statement.{statement}
@@ -8,7 +8,9 @@ decimal-requires : tie.Need-decimal-requires
 decimal-requires c κs = ended-number _ _ _ _ (c .before .before .pre)
 
 slice-write-out : tie.Need-slice-write-out
-slice-write-out c = ended-last _ _ _ _ _ _ (c .before .before .decimal .ensures) (c .before .before .before .before .before .pre)
+slice-write-out c =
+    let asked = c .before .before .before .before .before .pre in
+    ended-last _ _ _ _ _ _ (c .before .before .decimal .ensures) asked
 
 add-result : tie.Need-add-result
 add-result c = let h = ended-last _ _ _ _ _ _ (c .before .before .decimal .ensures) (c .before .before .before .before .before .pre) in search needs

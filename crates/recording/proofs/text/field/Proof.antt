@@ -1,4 +1,4 @@
--- `recording::text::field` meets its contract. Assumes nothing.
+-- `text::field` meets its contract: the word, and after it the number with its line end. Assumes nothing.
 use Rattle.recording.specs.TextLaws.{field-number, field-put, field-near, put-room}
 use borrow.Author.Needs.{needs}
 use Rattle.recording.proofs.text.field.Statement.{statement}

@@ -1,4 +1,4 @@
--- `recording::text::line` meets its contract. Assumes nothing.
+-- `text::line` meets its contract: three numbers, each with the character that ends it. Assumes nothing.
 use Rattle.recording.specs.TextLaws.{line-put}
 use borrow.Author.Needs.{needs}
 use Rattle.recording.proofs.text.line.Statement.{statement}
@@ -17,7 +17,10 @@ same-length : tie.Need-same-length
 same-length c = search needs
 
 returns : tie.Need-returns
-returns c = (line-put _ _ _ _ _ _ _ (c .before .before .before .before .before .before .before .before .before .before .byte .ensures .0) (c .before .before .before .before .before .before .byte2 .ensures .0) (c .before .before .byte3 .ensures .0), (search needs, search needs))
+returns c =
+    let byte-says = c .before .before .before .before .before .before .before .before .before .before .byte .ensures in
+    let byte2-says = c .before .before .before .before .before .before .byte2 .ensures in
+    (line-put _ _ _ _ _ _ _ (byte-says .0) (byte2-says .0) (c .before .before .byte3 .ensures .0), (search needs, search needs))
 
 pub line-spec : {M : Type 1} → statement M
 line-spec = tie.close (tie.spec byte-requires byte-requires-2 byte-requires-3 same-length returns)

@@ -1,4 +1,4 @@
--- `recording::text::lines` meets its contract. Assumes nothing.
+-- `text::lines` meets its contract: each turn of the loop writes one line after those before it. Assumes nothing.
 use mathlib.Core.Path.{_≡_, refl}
 use Prim.Native.Nat.{_+_, _-_, _*_, _≤_}
 use lib.ListN.{length}
@@ -46,7 +46,9 @@ loop-less : tie.Need-loop-less Inv-loop μ-loop
 loop-less c = search needs
 
 loop-again : tie.Need-loop-again Inv-loop μ-loop
-loop-again c = (search needs, search needs, search needs, lines-step _ _ _ _ _ _ (c .before .before .before .before .before .before .before .before .loop .inv .3) (c .before .before .line .ensures .0))
+loop-again c =
+    let so-far = c .before .before .before .before .before .before .before .before .loop .inv in
+    (search needs, search needs, search needs, lines-step _ _ _ _ _ _ (so-far .3) (c .before .before .line .ensures .0))
 
 same-length : tie.Need-same-length Inv-loop μ-loop
 same-length c = search needs

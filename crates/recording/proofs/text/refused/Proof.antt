@@ -1,4 +1,4 @@
--- `recording::text::refused` meets its contract. Assumes nothing.
+-- `text::refused` meets its contract: the field with the refusal's number. Assumes nothing.
 use Rattle.recording.specs.Text.{refusedOf}
 use borrow.Author.Needs.{needs}
 use Rattle.recording.proofs.text.refused.Statement.{statement}

@@ -1,4 +1,4 @@
--- `routines::angle::arc` meets its contract. Assumes nothing.
+-- `angle::arc` meets its contract: the polynomial, step by step. Assumes nothing.
 use lib.Ieee.{ofBits}
 use Rattle.routines.specs.Angle.{arcOf, factorOf}
 use mathlib.Core.Path.{refl}

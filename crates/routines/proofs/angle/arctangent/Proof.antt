@@ -1,4 +1,4 @@
--- `routines::angle::arctangent` meets its contract. Assumes nothing.
+-- `angle::arctangent` meets its contract: a NaN comes through, and every other point is turned into the first quadrant, mirrored, narrowed and given its sign. Assumes nothing.
 use Rattle.routines.specs.AngleCode.{first-nan, second-nan, made-below, made-above}
 use borrow.Author.Needs.{needs}
 use Rattle.routines.proofs.angle.arctangent.Statement.{statement}
@@ -14,7 +14,10 @@ widen-requires-2 : tie.Need-widen-requires-2
 widen-requires-2 c κs = search needs
 
 returns-2 : tie.Need-returns-2
-returns-2 c = second-nan (c .before .before .before .before .args .y) (c .before .before .before .before .args .x) _ (c .before .widen2 .ensures) (c .if2 .taken)
+returns-2 c =
+    let y = c .before .before .before .before .args .y in
+    let x = c .before .before .before .before .args .x in
+    second-nan y x _ (c .before .widen2 .ensures) (c .if2 .taken)
 
 abs-requires : tie.Need-abs-requires
 abs-requires c κs = search needs
@@ -38,10 +41,28 @@ is-negative-requires-2 : tie.Need-is-negative-requires-2
 is-negative-requires-2 c κs = search needs
 
 returns-3 : tie.Need-returns-3
-returns-3 c = made-below _ _ _ _ _ _ _ _ _ _ _ (c .before .before .before .before .before .before .before .before .before .before .before .widen .ensures) (c .before .before .before .before .before .before .before .before .before .widen2 .ensures) (c .before .before .before .before .before .before .before .abs .ensures) (c .before .before .before .before .before .before .abs2 .ensures) (c .before .before .before .before .before .quadrant-arc .ensures) (c .before .before .before .before .is-negative .ensures) (c .before .before .before .mirrored .ensures) (c .before .before .narrow .ensures) (c .before .before .before .before .before .before .before .before .before .before .if1 .left) (c .before .before .before .before .before .before .before .before .if2 .left) (c .before .is-negative2 .ensures) (c .if3 .taken)
+returns-3 c =
+    let widen-says = c .before .before .before .before .before .before .before .before .before .before .before .widen .ensures in
+    let widen2-says = c .before .before .before .before .before .before .before .before .before .widen2 .ensures in
+    let abs-says = c .before .before .before .before .before .before .before .abs .ensures in
+    let abs2-says = c .before .before .before .before .before .before .abs2 .ensures in
+    let quadrant-arc-says = c .before .before .before .before .before .quadrant-arc .ensures in
+    let is-negative-says = c .before .before .before .before .is-negative .ensures in
+    let test1-fails = c .before .before .before .before .before .before .before .before .before .before .if1 .left in
+    let test2-fails = c .before .before .before .before .before .before .before .before .if2 .left in
+    made-below _ _ _ _ _ _ _ _ _ _ _ widen-says widen2-says abs-says abs2-says quadrant-arc-says is-negative-says (c .before .before .before .mirrored .ensures) (c .before .before .narrow .ensures) test1-fails test2-fails (c .before .is-negative2 .ensures) (c .if3 .taken)
 
 returns-4 : tie.Need-returns-4
-returns-4 c = made-above _ _ _ _ _ _ _ _ _ _ _ (c .before .before .before .before .before .before .before .before .before .before .before .widen .ensures) (c .before .before .before .before .before .before .before .before .before .widen2 .ensures) (c .before .before .before .before .before .before .before .abs .ensures) (c .before .before .before .before .before .before .abs2 .ensures) (c .before .before .before .before .before .quadrant-arc .ensures) (c .before .before .before .before .is-negative .ensures) (c .before .before .before .mirrored .ensures) (c .before .before .narrow .ensures) (c .before .before .before .before .before .before .before .before .before .before .if1 .left) (c .before .before .before .before .before .before .before .before .if2 .left) (c .before .is-negative2 .ensures) (c .if3 .left)
+returns-4 c =
+    let widen-says = c .before .before .before .before .before .before .before .before .before .before .before .widen .ensures in
+    let widen2-says = c .before .before .before .before .before .before .before .before .before .widen2 .ensures in
+    let abs-says = c .before .before .before .before .before .before .before .abs .ensures in
+    let abs2-says = c .before .before .before .before .before .before .abs2 .ensures in
+    let quadrant-arc-says = c .before .before .before .before .before .quadrant-arc .ensures in
+    let is-negative-says = c .before .before .before .before .is-negative .ensures in
+    let test1-fails = c .before .before .before .before .before .before .before .before .before .before .if1 .left in
+    let test2-fails = c .before .before .before .before .before .before .before .before .if2 .left in
+    made-above _ _ _ _ _ _ _ _ _ _ _ widen-says widen2-says abs-says abs2-says quadrant-arc-says is-negative-says (c .before .before .before .mirrored .ensures) (c .before .before .narrow .ensures) test1-fails test2-fails (c .before .is-negative2 .ensures) (c .if3 .left)
 
 pub arctangent-spec : {M : Type 1} → statement M
 arctangent-spec =

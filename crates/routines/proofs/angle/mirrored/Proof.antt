@@ -1,4 +1,4 @@
--- `routines::angle::mirrored` meets its contract. Assumes nothing.
+-- `angle::mirrored` meets its contract: the angle from pi back where it lies to the left. Assumes nothing.
 use Rattle.routines.specs.AngleCode.{mirrored-left, mirrored-right}
 use Rattle.routines.proofs.angle.mirrored.Statement.{statement}
 use Rattle.routines.proofs.angle.mirrored.Tie as tie

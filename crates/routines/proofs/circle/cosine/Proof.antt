@@ -1,4 +1,4 @@
--- `routines::circle::cosine` meets its contract. Assumes nothing.
+-- `circle::cosine` meets its contract: the cosine of the angle's size. Assumes nothing.
 use Rattle.routines.specs.CircleLaws.{abs-plain}
 use Rattle.routines.specs.Circle.{sizeCosine, cosineOf}
 use Rattle.numbers.specs.Numbers.{signOf}

@@ -1,4 +1,4 @@
--- `routines::circle::near_cosine` meets its contract. Assumes nothing.
+-- `circle::near_cosine` meets its contract: the polynomial, step by step. Assumes nothing.
 use lib.Ieee.{ofBits}
 use Rattle.routines.specs.Circle.{nearCosine}
 use mathlib.Core.Path.{refl}

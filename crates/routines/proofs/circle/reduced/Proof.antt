@@ -1,4 +1,4 @@
--- `routines::circle::reduced` meets its contract. Assumes nothing.
+-- `circle::reduced` meets its contract: the quarter turns are taken off in three parts. Assumes nothing.
 use Rattle.routines.specs.CircleCode.{reduced-made}
 use borrow.Author.Needs.{needs}
 use Rattle.routines.proofs.circle.reduced.Statement.{statement}

@@ -1,4 +1,4 @@
--- `routines::circle::sine` meets its contract. Assumes nothing.
+-- `circle::sine` meets its contract: the sine of the angle's size, with the angle's sign. Assumes nothing.
 use Rattle.routines.specs.CircleLaws.{abs-plain}
 use Rattle.routines.specs.Circle.{sizeSine, withSign, sineOf}
 use lib.Ieee.{Float}

@@ -1,4 +1,4 @@
--- `routines::circle::sine_cosine` meets its contract. Assumes nothing.
+-- `circle::sine_cosine` meets its contract: the sine with its sign, and the cosine. Assumes nothing.
 use Rattle.routines.specs.CircleLaws.{abs-plain}
 use Rattle.routines.specs.CircleCode.{pair-made}
 use Rattle.numbers.specs.Numbers.{signOf}

@@ -1,4 +1,4 @@
--- `routines::circle::size_pair` meets its contract. Assumes nothing.
+-- `circle::size_pair` meets its contract: within 64 the turned pair brought back to -1..1, and beyond it two NaN. Assumes nothing.
 use lib.Ieee.{ofBits, neg, div}
 use Rattle.routines.specs.CircleCode.{pair-reached, pair-none}
 use borrow.Author.Needs.{needs}
@@ -19,7 +19,10 @@ clamp-requires-2 c κs = search needs
 
 returns : tie.Need-returns
 unfolding ofBits neg
-returns c = pair-reached (c .before .before .before .before .before .args .a) _ _ _ _ (c .before .before .before .before .if1 .taken) (c .before .before .before .reduced .ensures) (c .before .before .turned-pair .ensures) (c .before .clamp .ensures) (c .clamp2 .ensures)
+returns c =
+    let a = c .before .before .before .before .before .args .a in
+    let test1-holds = c .before .before .before .before .if1 .taken in
+    pair-reached a _ _ _ _ test1-holds (c .before .before .before .reduced .ensures) (c .before .before .turned-pair .ensures) (c .before .clamp .ensures) (c .clamp2 .ensures)
 
 returns-2 : tie.Need-returns-2
 unfolding ofBits div

@@ -1,4 +1,4 @@
--- `routines::circle::size_sine` meets its contract. Assumes nothing.
+-- `circle::size_sine` meets its contract: within 64 the turned sine brought back to -1..1, and beyond it a NaN. Assumes nothing.
 use lib.Ieee.{ofBits, neg, div}
 use mathlib.Core.Path.{sym}
 use Rattle.routines.specs.CircleLaws.{size-none}
@@ -18,7 +18,9 @@ clamp-requires c κs = search needs
 
 returns : tie.Need-returns
 unfolding ofBits neg
-returns c = sine-reached (c .before .before .before .before .args .a) _ _ _ (c .before .before .before .if1 .taken) (c .before .before .reduced .ensures) (c .before .turned-sine .ensures) (c .clamp .ensures)
+returns c =
+    let a = c .before .before .before .before .args .a in
+    sine-reached a _ _ _ (c .before .before .before .if1 .taken) (c .before .before .reduced .ensures) (c .before .turned-sine .ensures) (c .clamp .ensures)
 
 returns-2 : tie.Need-returns-2
 unfolding ofBits div

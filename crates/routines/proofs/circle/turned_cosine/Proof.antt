@@ -1,4 +1,4 @@
--- `routines::circle::turned_cosine` meets its contract. Assumes nothing.
+-- `circle::turned_cosine` meets its contract: one of four, by the quarter turns. Assumes nothing.
 use lib.Ieee.{neg}
 use mathlib.Core.Path.{ap}
 use Rattle.routines.specs.CircleCode.{quarter-0, quarter-1, quarter-2, quarter-3}

@@ -1,4 +1,4 @@
--- `routines::circle::turns` meets its contract. Assumes nothing.
+-- `circle::turns` meets its contract: the product is in range, so that the cast is the definition's. Assumes nothing.
 use Rattle.routines.specs.Reached.{turns-asks}
 use Rattle.routines.specs.Circle.{turnsOf}
 use Rattle.routines.proofs.circle.turns.Statement.{statement}

@@ -1,4 +1,4 @@
--- `routines::circle::with_sign` meets its contract. Assumes nothing.
+-- `circle::with_sign` meets its contract: negated where the sign is set. Assumes nothing.
 use mathlib.Core.Path.{refl, sym, _∙_}
 use Rattle.laws.specs.Branches.{cond-then, cond-no}
 use borrow.Author.Needs.{needs}

@@ -1,4 +1,4 @@
--- `routines::hypotenuse::is_infinite` meets its contract. Assumes nothing.
+-- `hypotenuse::is_infinite` meets its contract: equal to one of the two infinities. Assumes nothing.
 use Rattle.routines.specs.HypotenuseCode.{infinite-up, infinite-down}
 use lib.Ieee.{ofBits, div, neg}
 use Rattle.routines.proofs.hypotenuse.is_infinite.Statement.{statement}

@@ -1,4 +1,4 @@
--- `routines::hypotenuse::narrow_root` meets its contract. Assumes nothing.
+-- `hypotenuse::narrow_root` meets its contract: a guess that encloses the root and narrows to one value, and else the root itself, narrowed. Assumes nothing.
 use Rattle.routines.specs.HypotenuseCode.{root-of-nan}
 use Rattle.routines.specs.Enclosed.{enclosed}
 use Rattle.numbers.specs.Laws.{no-nan}
@@ -28,7 +28,11 @@ narrow-requires-2 : tie.Need-narrow-requires-2
 narrow-requires-2 c κs = search needs
 
 returns-2 : tie.Need-returns-2
-returns-2 c = enclosed _ (c .before .before .before .before .before .before .before .args .s) _ _ _ (mul-fits binary64 _ _) (subst T (sym (c .before .before .before .before .before .before .before .good .0 .1)) tt) (mul-fits binary64 _ _) (sym (c .before .before .before .before .encloses .ensures) ∙ c .before .before .before .if2 .taken) (c .before .before .narrow .ensures) (c .before .narrow2 .ensures) (c .if3 .taken)
+returns-2 c =
+    let s = c .before .before .before .before .before .before .before .args .s in
+    let good = c .before .before .before .before .before .before .before .good in
+    let encloses-says = c .before .before .before .before .encloses .ensures in
+    enclosed _ s _ _ _ (mul-fits binary64 _ _) (subst T (sym (good .0 .1)) tt) (mul-fits binary64 _ _) (sym encloses-says ∙ c .before .before .before .if2 .taken) (c .before .before .narrow .ensures) (c .before .narrow2 .ensures) (c .if3 .taken)
 
 sqrt-requires : tie.Need-sqrt-requires
 sqrt-requires c κs = search needs

@@ -1,4 +1,4 @@
--- `routines::hypotenuse::near_root` meets its contract. Assumes nothing.
+-- `hypotenuse::near_root` meets its contract: the patterns that it makes are those of floats. Assumes nothing.
 use Rattle.routines.specs.HypotenuseCode.{half-bits}
 use borrow.Author.Needs.{needs}
 use Rattle.routines.proofs.hypotenuse.near_root.Statement.{statement}

@@ -1,4 +1,4 @@
--- `routines::hypotenuse::root_of_squares` meets its contract. Assumes nothing.
+-- `hypotenuse::root_of_squares` meets its contract: squares and sum at the wider format, and the narrowed root of it. Assumes nothing.
 use Rattle.routines.specs.HypotenuseCode.{squares-made}
 use borrow.Author.Needs.{needs}
 use Rattle.routines.proofs.hypotenuse.root_of_squares.Statement.{statement}

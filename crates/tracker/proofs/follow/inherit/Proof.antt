@@ -1,4 +1,4 @@
--- `tracker::follow::inherit` meets its contract. Assumes nothing.
+-- `follow::inherit` meets its contract: each turn of the loop puts the taps of one state's parent in that state's places. Assumes nothing.
 use mathlib.Core.Path.{_∙_, _≡_}
 use Prim.Native.Nat.{_-_, _≤_}
 use native.Mathlib.Omega.{arith}
@@ -31,7 +31,10 @@ taps-at-requires : tie.Need-taps-at-requires Inv-loop μ-loop
 taps-at-requires c κs = c .before .before .before .pre .0 .below (c .before .before .loop .s) (search needs)
 
 put-taps-requires : tie.Need-put-taps-requires Inv-loop μ-loop
-put-taps-requires c κs = (search needs, put-length (λ z. z .real) _ _ _ _ (c .before .before .before .before .before .loop .inv .1) ∙ c .before .before .before .before .before .before .pre .1, put-length (λ z. z .imaginary) _ _ _ _ (c .before .before .before .before .before .loop .inv .2) ∙ c .before .before .before .before .before .before .pre .2)
+put-taps-requires c κs =
+    let laid = c .before .before .before .before .before .loop .inv in
+    let sizes = c .before .before .before .before .before .before .pre in
+    (search needs, put-length (λ z. z .real) _ _ _ _ (laid .1) ∙ sizes .1, put-length (λ z. z .imaginary) _ _ _ _ (laid .2) ∙ sizes .2)
 
 add-s : tie.Need-add-s Inv-loop μ-loop
 add-s c = search needs
@@ -40,10 +43,19 @@ loop-less : tie.Need-loop-less Inv-loop μ-loop
 loop-less c = search needs
 
 loop-again : tie.Need-loop-again Inv-loop μ-loop
-loop-again c = (search needs, put-step (λ z. z .real) _ _ _ _ _ _ (c .before .before .before .taps-at .ensures) (c .put-taps .ensures .0) (c .before .before .before .before .before .before .loop .inv .1), put-step (λ z. z .imaginary) _ _ _ _ _ _ (c .before .before .before .taps-at .ensures) (c .put-taps .ensures .1) (c .before .before .before .before .before .before .loop .inv .2))
+loop-again c =
+    let laid = c .before .before .before .before .before .before .loop .inv in
+    let taps = c .before .before .before .taps-at .ensures in (
+      search needs,
+      put-step (λ z. z .real) _ _ _ _ _ _ taps (c .put-taps .ensures .0) (laid .1),
+      put-step (λ z. z .imaginary) _ _ _ _ _ _ taps (c .put-taps .ensures .1) (laid .2),
+    )
 
 returns : tie.Need-returns Inv-loop μ-loop
-returns c = (real-end _ _ _ _ (c .before .loop .inv .1) (search needs) (search needs) (c .before .before .pre .1), imaginary-end _ _ _ _ (c .before .loop .inv .2) (search needs) (search needs) (c .before .before .pre .2))
+returns c = (
+  real-end _ _ _ _ (c .before .loop .inv .1) (search needs) (search needs) (c .before .before .pre .1),
+  imaginary-end _ _ _ _ (c .before .loop .inv .2) (search needs) (search needs) (c .before .before .pre .2),
+)
 
 pub inherit-spec : {M : Type 1} → statement M
 inherit-spec =

@@ -1,4 +1,4 @@
--- `tracker::follow::learn` meets its contract. Assumes nothing.
+-- `follow::learn` meets its contract: each turn of the loop puts one state's taps, moved from its parent's, in that state's places, and their power beside them. Assumes nothing.
 use mathlib.Core.Path.{_∙_, _≡_}
 use Prim.Native.Nat.{_-_, _≤_}
 use native.Mathlib.Omega.{arith}
@@ -12,14 +12,14 @@ use Rattle.tracker.proofs.follow.learn.Statement.{statement}
 use Rattle.tracker.proofs.follow.learn.Tie as tie
 
 abbrev Inv-loop : tie.InvT-loop
-Inv-loop old-real old-imaginary parents guess-real guess-imaginary input real₀ imaginary₀ norms₀ s₀ real imaginary norms s =
+Inv-loop old-real old-imaginary parents prediction-real prediction-imaginary input real₀ imaginary₀ norms₀ s₀ real imaginary norms s =
     (s ≤ 64)
-    × (real ≡ turns (putTurn (λ z. z .real) (learntAt (record { real = old-real; imaginary = old-imaginary }) parents (record { real = guess-real; imaginary = guess-imaginary }) input)) s real₀)
-    × (imaginary ≡ turns (putTurn (λ z. z .imaginary) (learntAt (record { real = old-real; imaginary = old-imaginary }) parents (record { real = guess-real; imaginary = guess-imaginary }) input)) s imaginary₀)
-    × (norms ≡ fill (λ k. normOf (learntAt (record { real = old-real; imaginary = old-imaginary }) parents (record { real = guess-real; imaginary = guess-imaginary }) input k)) s norms₀)
+    × (real ≡ turns (putTurn (λ z. z .real) (learntAt (record { real = old-real; imaginary = old-imaginary }) parents (record { real = prediction-real; imaginary = prediction-imaginary }) input)) s real₀)
+    × (imaginary ≡ turns (putTurn (λ z. z .imaginary) (learntAt (record { real = old-real; imaginary = old-imaginary }) parents (record { real = prediction-real; imaginary = prediction-imaginary }) input)) s imaginary₀)
+    × (norms ≡ fill (λ k. normOf (learntAt (record { real = old-real; imaginary = old-imaginary }) parents (record { real = prediction-real; imaginary = prediction-imaginary }) input k)) s norms₀)
 
 abbrev μ-loop : tie.MeasureT-loop
-μ-loop old-real old-imaginary parents guess-real guess-imaginary input real₀ imaginary₀ norms₀ s₀ real imaginary norms s = 64 - s
+μ-loop old-real old-imaginary parents prediction-real prediction-imaginary input real₀ imaginary₀ norms₀ s₀ real imaginary norms s = 64 - s
 
 loop-holds : tie.Need-loop-holds Inv-loop μ-loop
 loop-holds c = (search needs, turns-start _ _, turns-start _ _, fill-start _ _)
@@ -40,10 +40,16 @@ element-copy-out-norms : tie.Need-element-copy-out-norms Inv-loop μ-loop
 element-copy-out-norms c = search needs
 
 cast-taps-at : tie.Need-cast-taps-at Inv-loop μ-loop
-cast-taps-at c = omega (arith, c .before .before .before .before .before .pre .0 .below (c .before .before .before .before .loop .s) (search needs))
+cast-taps-at c =
+    let parents = c .before .before .before .before .before .pre .0 in
+    let s = c .before .before .before .before .loop .s in
+    omega (arith, parents .below s (search needs))
 
 taps-at-requires : tie.Need-taps-at-requires Inv-loop μ-loop
-taps-at-requires c κs = c .before .before .before .before .before .pre .0 .below (c .before .before .before .before .loop .s) (search needs)
+taps-at-requires c κs =
+    let parents = c .before .before .before .before .before .pre .0 in
+    let s = c .before .before .before .before .loop .s in
+    parents .below s (search needs)
 
 subtracted-requires : tie.Need-subtracted-requires Inv-loop μ-loop
 subtracted-requires c κs = search needs
@@ -52,13 +58,22 @@ cast-learnt : tie.Need-cast-learnt Inv-loop μ-loop
 cast-learnt c = search needs
 
 cast-learnt-2 : tie.Need-cast-learnt-2 Inv-loop μ-loop
-cast-learnt-2 c = omega (arith, c .before .before .before .before .before .before .before .pre .0 .below (c .before .before .before .before .before .before .loop .s) (search needs))
+cast-learnt-2 c =
+    let parents = c .before .before .before .before .before .before .before .pre .0 in
+    let s = c .before .before .before .before .before .before .loop .s in
+    omega (arith, parents .below s (search needs))
 
 learnt-requires : tie.Need-learnt-requires Inv-loop μ-loop
-learnt-requires c κs = (search needs, c .before .before .before .before .before .before .before .pre .0 .below (c .before .before .before .before .before .before .loop .s) (search needs))
+learnt-requires c κs =
+    let parents = c .before .before .before .before .before .before .before .pre .0 in
+    let s = c .before .before .before .before .before .before .loop .s in
+    (search needs, parents .below s (search needs))
 
 put-taps-requires : tie.Need-put-taps-requires Inv-loop μ-loop
-put-taps-requires c κs = (search needs, put-length (λ z. z .real) _ _ _ _ (c .before .before .before .before .before .before .before .before .before .loop .inv .1) ∙ c .before .before .before .before .before .before .before .before .before .before .pre .1, put-length (λ z. z .imaginary) _ _ _ _ (c .before .before .before .before .before .before .before .before .before .loop .inv .2) ∙ c .before .before .before .before .before .before .before .before .before .before .pre .2)
+put-taps-requires c κs =
+    let laid = c .before .before .before .before .before .before .before .before .before .loop .inv in
+    let sizes = c .before .before .before .before .before .before .before .before .before .before .pre in
+    (search needs, put-length (λ z. z .real) _ _ _ _ (laid .1) ∙ sizes .1, put-length (λ z. z .imaginary) _ _ _ _ (laid .2) ∙ sizes .2)
 
 norm-of-requires : tie.Need-norm-of-requires Inv-loop μ-loop
 norm-of-requires c κs = search needs
@@ -76,20 +91,22 @@ loop-less : tie.Need-loop-less Inv-loop μ-loop
 loop-less c = search needs
 
 loop-again : tie.Need-loop-again Inv-loop μ-loop
-loop-again c = (
-  search needs,
-  put-step (λ z. z .real) _ _ _ _ _ _ (learnt-is _ _ _ _ _ _ _ _ (c .before .before .before .before .before .before .taps-at .ensures) (c .before .before .before .before .before .subtracted .ensures) (c .before .before .before .before .learnt .ensures)) (c .before .put-taps .ensures .0) (c .before .before .before .before .before .before .before .before .before .before .before .loop .inv .1),
-  put-step (λ z. z .imaginary) _ _ _ _ _ _ (learnt-is _ _ _ _ _ _ _ _ (c .before .before .before .before .before .before .taps-at .ensures) (c .before .before .before .before .before .subtracted .ensures) (c .before .before .before .before .learnt .ensures)) (c .before .put-taps .ensures .1) (c .before .before .before .before .before .before .before .before .before .before .before .loop .inv .2),
-  norms-step _ _ _ _ _ _ (learnt-is _ _ _ _ _ _ _ _ (c .before .before .before .before .before .before .taps-at .ensures) (c .before .before .before .before .before .subtracted .ensures) (c .before .before .before .before .learnt .ensures)) (c .norm-of .ensures) (c .before .before .before .before .before .before .before .before .before .before .before .loop .inv .3),
-)
+loop-again c =
+    let laid = c .before .before .before .before .before .before .before .before .before .before .before .loop .inv in
+    let taps = c .before .before .before .before .before .before .taps-at .ensures in
+    let error = c .before .before .before .before .before .subtracted .ensures in
+    let moved = c .before .before .before .before .learnt .ensures in (
+      search needs,
+      put-step (λ z. z .real) _ _ _ _ _ _ (learnt-is _ _ _ _ _ _ _ _ taps error moved) (c .before .put-taps .ensures .0) (laid .1),
+      put-step (λ z. z .imaginary) _ _ _ _ _ _ (learnt-is _ _ _ _ _ _ _ _ taps error moved) (c .before .put-taps .ensures .1) (laid .2),
+      norms-step _ _ _ _ _ _ (learnt-is _ _ _ _ _ _ _ _ taps error moved) (c .norm-of .ensures) (laid .3),
+    )
 
 returns : tie.Need-returns Inv-loop μ-loop
 returns c = (
   real-end _ _ _ _ (c .before .loop .inv .1) (search needs) (search needs) (c .before .before .pre .1),
-  (
-    imaginary-end _ _ _ _ (c .before .loop .inv .2) (search needs) (search needs) (c .before .before .pre .2),
-    fill-end _ _ 64 _ _ nan (c .before .loop .inv .3) (search needs) (search needs) (c .before .before .pre .3),
-  ),
+  imaginary-end _ _ _ _ (c .before .loop .inv .2) (search needs) (search needs) (c .before .before .pre .2),
+  fill-end _ _ 64 _ _ nan (c .before .loop .inv .3) (search needs) (search needs) (c .before .before .pre .3),
 )
 
 pub learn-spec : {M : Type 1} → statement M

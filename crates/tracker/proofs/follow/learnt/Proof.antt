@@ -1,4 +1,4 @@
--- `tracker::follow::learnt` meets its contract. Assumes nothing.
+-- `follow::learnt` meets its contract: each of the four taps is moved by its own step and its own symbol. Assumes nothing.
 use Rattle.tracker.specs.Tracker.{learntOf}
 use borrow.Author.Needs.{needs}
 use Rattle.tracker.proofs.follow.learnt.Statement.{statement}
@@ -30,7 +30,20 @@ moved-requires-4 c κs = search needs
 
 returns : tie.Need-returns
 unfolding learntOf
-returns c = rw (c .moved4 .ensures, c .before .symbol4 .ensures, c .before .before .moved3 .ensures, c .before .before .before .symbol3 .ensures, c .before .before .before .before .moved2 .ensures, c .before .before .before .before .before .symbol2 .ensures, c .before .before .before .before .before .before .moved .ensures, c .before .before .before .before .before .before .before .symbol .ensures)
+returns c =
+    let two = c .before .before in
+    let one = two .before .before in
+    let main = one .before .before in
+    rw (
+      c .moved4 .ensures,
+      c .before .symbol4 .ensures,
+      two .moved3 .ensures,
+      two .before .symbol3 .ensures,
+      one .moved2 .ensures,
+      one .before .symbol2 .ensures,
+      main .moved .ensures,
+      main .before .symbol .ensures,
+    )
 
 pub learnt-spec : {M : Type 1} → statement M
 learnt-spec =

@@ -1,4 +1,4 @@
--- `tracker::follow::limit` meets its contract. Assumes nothing.
+-- `follow::limit` meets its contract: each turn of the loop limits one state's taps, and no other place moves. Assumes nothing.
 use mathlib.Core.Path.{_≡_, _∙_}
 use Prim.Native.Nat.{_-_, _≤_}
 use Rattle.laws.specs.Turns.{turns, turns-start}
@@ -23,7 +23,10 @@ element-copy-out-limit-taps : tie.Need-element-copy-out-limit-taps Inv-loop μ-l
 element-copy-out-limit-taps c = search needs
 
 limit-taps-requires : tie.Need-limit-taps-requires Inv-loop μ-loop
-limit-taps-requires c κs = (search needs, limit-length _ _ _ _ (c .before .before .before .before .loop .inv .1) ∙ c .before .before .before .before .before .pre .0, limit-length _ _ _ _ (c .before .before .before .before .loop .inv .2) ∙ c .before .before .before .before .before .pre .1)
+limit-taps-requires c κs =
+    let limited = c .before .before .before .before .loop .inv in
+    let sizes = c .before .before .before .before .before .pre in
+    (search needs, limit-length _ _ _ _ (limited .1) ∙ sizes .0, limit-length _ _ _ _ (limited .2) ∙ sizes .1)
 
 add-s : tie.Need-add-s Inv-loop μ-loop
 add-s c = search needs
@@ -32,10 +35,15 @@ loop-less : tie.Need-loop-less Inv-loop μ-loop
 loop-less c = search needs
 
 loop-again : tie.Need-loop-again Inv-loop μ-loop
-loop-again c = (search needs, limit-step _ _ _ _ _ (c .limit-taps .ensures .0) (c .before .before .before .before .before .loop .inv .1), limit-step _ _ _ _ _ (c .limit-taps .ensures .1) (c .before .before .before .before .before .loop .inv .2))
+loop-again c =
+    let limited = c .before .before .before .before .before .loop .inv in
+    (search needs, limit-step _ _ _ _ _ (c .limit-taps .ensures .0) (limited .1), limit-step _ _ _ _ _ (c .limit-taps .ensures .1) (limited .2))
 
 returns : tie.Need-returns Inv-loop μ-loop
-returns c = (limit-end _ _ _ _ (c .before .loop .inv .1) (search needs) (search needs) (c .before .before .pre .0), limit-end _ _ _ _ (c .before .loop .inv .2) (search needs) (search needs) (c .before .before .pre .1))
+returns c = (
+  limit-end _ _ _ _ (c .before .loop .inv .1) (search needs) (search needs) (c .before .before .pre .0),
+  limit-end _ _ _ _ (c .before .loop .inv .2) (search needs) (search needs) (c .before .before .pre .1),
+)
 
 pub limit-spec : {M : Type 1} → statement M
 limit-spec =

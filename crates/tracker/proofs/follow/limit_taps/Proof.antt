@@ -1,4 +1,4 @@
--- `tracker::follow::limit_taps` meets its contract. Assumes nothing.
+-- `follow::limit_taps` meets its contract: above the most power both parts are scaled by 4 / √norm, and else nothing moves. Assumes nothing.
 use Rattle.tracker.specs.Laws.{limit-yes, limit-no}
 use borrow.Author.Needs.{needs}
 use Rattle.tracker.proofs.follow.limit_taps.Statement.{statement}
@@ -14,7 +14,10 @@ scale-requires-2 : tie.Need-scale-requires-2
 scale-requires-2 c κs = search needs
 
 returns : tie.Need-returns
-returns c = (limit-yes _ _ _ _ _ (c .before .before .before .before .before .if1 .taken) (c .before .before .before .before .sqrt32 .ensures) (c .before .before .scale .ensures), limit-yes _ _ _ _ _ (c .before .before .before .before .before .if1 .taken) (c .before .before .before .before .sqrt32 .ensures) (c .scale2 .ensures))
+returns c =
+    let above = c .before .before .before .before .before .if1 .taken in
+    let root = c .before .before .before .before .sqrt32 .ensures in
+    (limit-yes _ _ _ _ _ above root (c .before .before .scale .ensures), limit-yes _ _ _ _ _ above root (c .scale2 .ensures))
 
 returns-2 : tie.Need-returns-2
 returns-2 c = (limit-no _ _ _ (c .if1 .left), limit-no _ _ _ (c .if1 .left))

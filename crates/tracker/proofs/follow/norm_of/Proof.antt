@@ -1,4 +1,4 @@
--- `tracker::follow::norm_of` meets its contract. Assumes nothing.
+-- `follow::norm_of` meets its contract: the sum of the four powers from 0 on, main tap first. Assumes nothing.
 use Rattle.tracker.specs.Tracker.{normOf}
 use borrow.Author.Needs.{needs}
 use Rattle.tracker.proofs.follow.norm_of.Statement.{statement}

@@ -1,4 +1,4 @@
--- `tracker::follow::scale` meets its contract. Assumes nothing.
+-- `follow::scale` meets its contract: the four places of the state's taps are multiplied by the gain. Assumes nothing.
 use mathlib.Core.Path.{refl}
 use Rattle.tracker.specs.Layout.{scaledColumn}
 use Rattle.tracker.specs.Stripes.{column}

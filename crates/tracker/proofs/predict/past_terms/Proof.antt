@@ -1,4 +1,4 @@
--- `tracker::predict::past_terms` meets its contract. Assumes nothing.
+-- `predict::past_terms` meets its contract: each turn of the loop writes one prior's three terms, tap after tap. Assumes nothing.
 use mathlib.Core.Path.{_≡_}
 use Prim.Native.Nat.{_-_, _≤_}
 use Rattle.laws.specs.Turns.{turns, turns-start}
@@ -95,11 +95,12 @@ loop-less : tie.Need-loop-less Inv-loop μ-loop
 loop-less c = search needs
 
 loop-again : tie.Need-loop-again Inv-loop μ-loop
-loop-again c = (
-  search needs,
-  past-step (λ z. z .real) _ _ _ _ _ _ _ (c .before .before .term .ensures) (c .before .term2 .ensures) (c .term3 .ensures) (c .before .before .before .before .loop .inv .1),
-  past-step (λ z. z .imaginary) _ _ _ _ _ _ _ (c .before .before .term .ensures) (c .before .term2 .ensures) (c .term3 .ensures) (c .before .before .before .before .loop .inv .2),
-)
+loop-again c =
+    let laid = c .before .before .before .before .loop .inv in (
+      search needs,
+      past-step (λ z. z .real) _ _ _ _ _ _ _ (c .before .before .term .ensures) (c .before .term2 .ensures) (c .term3 .ensures) (laid .1),
+      past-step (λ z. z .imaginary) _ _ _ _ _ _ _ (c .before .before .term .ensures) (c .before .term2 .ensures) (c .term3 .ensures) (laid .2),
+    )
 
 returns : tie.Need-returns Inv-loop μ-loop
 returns c = (

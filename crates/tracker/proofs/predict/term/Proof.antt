@@ -1,4 +1,4 @@
--- `tracker::predict::term` meets its contract. Assumes nothing.
+-- `predict::term` meets its contract: the product of the tap with the symbol. Assumes nothing.
 use borrow.Author.Needs.{needs}
 use Rattle.tracker.proofs.predict.term.Statement.{statement}
 use Rattle.tracker.proofs.predict.term.Tie as tie

@@ -1,4 +1,4 @@
--- `tracker::symbols::imaginary` meets its contract. Assumes nothing.
+-- `symbols::imaginary` meets its contract: the symbols 0 and 1 have the positive part, 2 and 3 the negative. Assumes nothing.
 use Rattle.tracker.specs.Laws.{imaginary-plus, imaginary-minus}
 use borrow.Author.Needs.{needs}
 use Rattle.tracker.proofs.symbols.imaginary.Statement.{statement}

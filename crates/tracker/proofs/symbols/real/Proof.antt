@@ -1,4 +1,4 @@
--- `tracker::symbols::real` meets its contract. Assumes nothing.
+-- `symbols::real` meets its contract: the symbols 0 and 3 have the positive part, 1 and 2 the negative. Assumes nothing.
 use Rattle.tracker.specs.Laws.{real-plus, real-minus}
 use borrow.Author.Needs.{needs}
 use Rattle.tracker.proofs.symbols.real.Statement.{statement}

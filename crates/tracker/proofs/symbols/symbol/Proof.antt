@@ -1,4 +1,4 @@
--- `tracker::symbols::symbol` meets its contract. Assumes nothing.
+-- `symbols::symbol` meets its contract: its two parts. Assumes nothing.
 use borrow.Author.Needs.{needs}
 use Rattle.tracker.proofs.symbols.symbol.Statement.{statement}
 use Rattle.tracker.proofs.symbols.symbol.Tie as tie

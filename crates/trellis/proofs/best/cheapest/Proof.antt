@@ -1,4 +1,4 @@
--- `trellis::best::cheapest` meets its contract. Assumes nothing.
+-- `best::cheapest` meets its contract: the first cheapest of each quarter of the states, and of these four the first cheapest, is the first cheapest of all. Assumes nothing.
 use mathlib.Core.Path.{_≡_}
 use Prim.Native.Nat.{_-_, _≤_}
 use native.Mathlib.Omega.{arith}
@@ -95,13 +95,16 @@ loop-less : tie.Need-loop-less Inv-loop μ-loop
 loop-less c = search needs
 
 loop-again : tie.Need-loop-again Inv-loop μ-loop
-loop-again c = (
-  search needs,
-  scan-step _ _ _ _ _ _ (omega arith) (c .before .before .before .before .before .before .nearer .ensures) (c .before .before .before .before .before .before .before .before .before .loop .inv .1),
-  scan-step _ _ _ _ _ _ (omega arith) (c .before .before .before .before .nearer2 .ensures) (c .before .before .before .before .before .before .before .before .before .loop .inv .2),
-  scan-step _ _ _ _ _ _ (omega arith) (c .before .before .nearer3 .ensures) (c .before .before .before .before .before .before .before .before .before .loop .inv .3),
-  scan-step _ _ _ _ _ _ (omega arith) (c .nearer4 .ensures) (c .before .before .before .before .before .before .before .before .before .loop .inv .4),
-)
+loop-again c =
+    let scanned = c .before .before .before .before .before .before .before .before .before .loop .inv in
+    let first = c .before .before .before .before .before .before .nearer .ensures in
+    let second = c .before .before .before .before .nearer2 .ensures in (
+      search needs,
+      scan-step _ _ _ _ _ _ (omega arith) first (scanned .1),
+      scan-step _ _ _ _ _ _ (omega arith) second (scanned .2),
+      scan-step _ _ _ _ _ _ (omega arith) (c .before .before .nearer3 .ensures) (scanned .3),
+      scan-step _ _ _ _ _ _ (omega arith) (c .nearer4 .ensures) (scanned .4),
+    )
 
 nearer-requires-5 : tie.Need-nearer-requires-5 Inv-loop μ-loop
 nearer-requires-5 c κs = search needs
@@ -113,7 +116,12 @@ nearer-requires-7 : tie.Need-nearer-requires-7 Inv-loop μ-loop
 nearer-requires-7 c κs = search needs
 
 returns : tie.Need-returns Inv-loop μ-loop
-returns c = quarters _ _ _ _ _ _ _ _ _ (c .before .before .before .before .before .before .before .before .before .pre) (search needs) (search needs) (c .before .before .before .before .loop .inv .1) (c .before .before .before .before .loop .inv .2) (c .before .before .before .before .loop .inv .3) (c .before .before .before .before .loop .inv .4) (c .before .before .nearer5 .ensures) (c .before .nearer6 .ensures) (c .nearer7 .ensures)
+returns c =
+    let plain = c .before .before .before .before .before .before .before .before .before .pre in
+    let scanned = c .before .before .before .before .loop .inv in
+    quarters _ _ _ _ _ _ _ _ _ plain (search needs) (search needs)
+    (scanned .1) (scanned .2) (scanned .3) (scanned .4)
+    (c .before .before .nearer5 .ensures) (c .before .nearer6 .ensures) (c .nearer7 .ensures)
 
 pub cheapest-spec : {M : Type 1} → statement M
 cheapest-spec =

@@ -1,4 +1,4 @@
--- `trellis::best::nearer` meets its contract. Assumes nothing.
+-- `best::nearer` meets its contract: the further state where it is cheaper, and else the one before. Assumes nothing.
 use mathlib.Core.Path.{refl}
 use Rattle.laws.specs.Branches.{cond-yes, cond-no}
 use Rattle.trellis.specs.Layout.{nearerOf}

@@ -1,4 +1,4 @@
--- `trellis::best::take_off` meets its contract. Assumes nothing.
+-- `best::take_off` meets its contract: each turn of the loop takes the cost off one state. Assumes nothing.
 use mathlib.Core.Path.{_≡_}
 use Prim.Native.Nat.{_-_, _≤_}
 use Rattle.laws.specs.Turns.{turns, turns-start, turns-step}

@@ -1,4 +1,4 @@
--- `trellis::branch::branches` meets its contract. Assumes nothing.
+-- `branch::branches` meets its contract: each turn of the loop writes one prior's sum and the two parts of its prediction. Assumes nothing.
 use mathlib.Core.Path.{_≡_}
 use Prim.Native.Nat.{_-_, _≤_}
 use lib.Ieee.{nan}
@@ -10,14 +10,14 @@ use Rattle.trellis.proofs.branch.branches.Statement.{statement}
 use Rattle.trellis.proofs.branch.branches.Tie as tie
 
 abbrev Inv-loop : tie.InvT-loop
-Inv-loop real imaginary past-real past-imaginary costs s input reliable sums₀ guess-real₀ guess-imaginary₀ p₀ sums guess-real guess-imaginary p =
+Inv-loop real imaginary past-real past-imaginary costs s input reliable sums₀ prediction-real₀ prediction-imaginary₀ p₀ sums prediction-real prediction-imaginary p =
     (p ≤ 64)
     × (sums ≡ fill (sumWith (record { real = real; imaginary = imaginary }) (record { real = past-real; imaginary = past-imaginary }) costs s input reliable) p sums₀)
-    × (guess-real ≡ fill (realWith (record { real = real; imaginary = imaginary }) (record { real = past-real; imaginary = past-imaginary }) s) p guess-real₀)
-    × (guess-imaginary ≡ fill (imaginaryWith (record { real = real; imaginary = imaginary }) (record { real = past-real; imaginary = past-imaginary }) s) p guess-imaginary₀)
+    × (prediction-real ≡ fill (realWith (record { real = real; imaginary = imaginary }) (record { real = past-real; imaginary = past-imaginary }) s) p prediction-real₀)
+    × (prediction-imaginary ≡ fill (imaginaryWith (record { real = real; imaginary = imaginary }) (record { real = past-real; imaginary = past-imaginary }) s) p prediction-imaginary₀)
 
 abbrev μ-loop : tie.MeasureT-loop
-μ-loop real imaginary past-real past-imaginary costs s input reliable sums₀ guess-real₀ guess-imaginary₀ p₀ sums guess-real guess-imaginary p = 64 - p
+μ-loop real imaginary past-real past-imaginary costs s input reliable sums₀ prediction-real₀ prediction-imaginary₀ p₀ sums prediction-real prediction-imaginary p = 64 - p
 
 loop-holds : tie.Need-loop-holds Inv-loop μ-loop
 loop-holds c = (search needs, fill-start _ _, fill-start _ _, fill-start _ _)
@@ -40,17 +40,17 @@ mul-sums-2 c = search needs
 element-write-sums : tie.Need-element-write-sums Inv-loop μ-loop
 element-write-sums c = search needs
 
-mul-guess-real : tie.Need-mul-guess-real Inv-loop μ-loop
-mul-guess-real c = search needs
+mul-prediction-real : tie.Need-mul-prediction-real Inv-loop μ-loop
+mul-prediction-real c = search needs
 
-element-write-guess-real : tie.Need-element-write-guess-real Inv-loop μ-loop
-element-write-guess-real c = search needs
+element-write-prediction-real : tie.Need-element-write-prediction-real Inv-loop μ-loop
+element-write-prediction-real c = search needs
 
-mul-guess-imaginary : tie.Need-mul-guess-imaginary Inv-loop μ-loop
-mul-guess-imaginary c = search needs
+mul-prediction-imaginary : tie.Need-mul-prediction-imaginary Inv-loop μ-loop
+mul-prediction-imaginary c = search needs
 
-element-write-guess-imaginary : tie.Need-element-write-guess-imaginary Inv-loop μ-loop
-element-write-guess-imaginary c = search needs
+element-write-prediction-imaginary : tie.Need-element-write-prediction-imaginary Inv-loop μ-loop
+element-write-prediction-imaginary c = search needs
 
 add-p : tie.Need-add-p Inv-loop μ-loop
 add-p c = search needs
@@ -59,20 +59,19 @@ loop-less : tie.Need-loop-less Inv-loop μ-loop
 loop-less c = search needs
 
 loop-again : tie.Need-loop-again Inv-loop μ-loop
-loop-again c = (
-  search needs,
-  sum-step _ _ _ _ _ _ _ _ _ _ _ (c .before .before .predicted .ensures) (c .before .metric .ensures) (c .before .before .before .before .loop .inv .1),
-  real-step _ _ _ _ _ _ _ (c .before .before .predicted .ensures) (c .before .before .before .before .loop .inv .2),
-  imaginary-step _ _ _ _ _ _ _ (c .before .before .predicted .ensures) (c .before .before .before .before .loop .inv .3),
-)
+loop-again c =
+    let filled = c .before .before .before .before .loop .inv in (
+      search needs,
+      sum-step _ _ _ _ _ _ _ _ _ _ _ (c .before .before .predicted .ensures) (c .before .metric .ensures) (filled .1),
+      real-step _ _ _ _ _ _ _ (c .before .before .predicted .ensures) (filled .2),
+      imaginary-step _ _ _ _ _ _ _ (c .before .before .predicted .ensures) (filled .3),
+    )
 
 returns : tie.Need-returns Inv-loop μ-loop
 returns c = (
   fill-end _ _ 64 _ _ nan (c .before .loop .inv .1) (search needs) (search needs) (c .before .before .before .pre .1),
-  (
-    fill-end _ _ 64 _ _ nan (c .before .loop .inv .2) (search needs) (search needs) (c .before .before .before .pre .2),
-    fill-end _ _ 64 _ _ nan (c .before .loop .inv .3) (search needs) (search needs) (c .before .before .before .pre .3),
-  ),
+  fill-end _ _ 64 _ _ nan (c .before .loop .inv .2) (search needs) (search needs) (c .before .before .before .pre .2),
+  fill-end _ _ 64 _ _ nan (c .before .loop .inv .3) (search needs) (search needs) (c .before .before .before .pre .3),
 )
 
 pub branches-spec : {M : Type 1} → statement M
@@ -88,10 +87,10 @@ branches-spec =
     shared-slice-read-sums
     mul-sums-2
     element-write-sums
-    mul-guess-real
-    element-write-guess-real
-    mul-guess-imaginary
-    element-write-guess-imaginary
+    mul-prediction-real
+    element-write-prediction-real
+    mul-prediction-imaginary
+    element-write-prediction-imaginary
     add-p
     loop-less
     loop-again

@@ -1,4 +1,4 @@
--- `trellis::branch::capped` meets its contract. Assumes nothing.
+-- `branch::capped` meets its contract: the distance where it is below the cap, and else the cap. Assumes nothing.
 use mathlib.Core.Path.{refl}
 use Rattle.laws.specs.Branches.{cond-yes, cond-no}
 use Rattle.trellis.specs.Trellis.{cappedOf}

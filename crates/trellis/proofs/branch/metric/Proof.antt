@@ -1,4 +1,4 @@
--- `trellis::branch::metric` meets its contract. Assumes nothing.
+-- `branch::metric` meets its contract: the capped distance where the input is reliable, and else 0. Assumes nothing.
 use mathlib.Core.Path.{refl}
 use Rattle.laws.specs.Branches.{cond-no}
 use Rattle.trellis.specs.Trellis.{metricOf}

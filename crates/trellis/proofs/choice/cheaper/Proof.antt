@@ -1,7 +1,7 @@
--- `trellis::choice::cheaper` meets its contract. Assumes nothing.
+-- `choice::cheaper` meets its contract: the branch that stands in the planes where it is cheaper, and else the one before. Assumes nothing.
 use mathlib.Core.Path.{refl}
 use Rattle.laws.specs.Branches.{cond-yes, cond-no}
-use Rattle.trellis.specs.Layout.{betterAt}
+use Rattle.trellis.specs.Layout.{cheaperOf}
 use Rattle.trellis.specs.Trellis.{better}
 use borrow.Author.Needs.{needs}
 use Rattle.trellis.proofs.choice.cheaper.Statement.{statement}
@@ -29,11 +29,11 @@ element-copy-out-t21 : tie.Need-element-copy-out-t21
 element-copy-out-t21 c = search needs
 
 returns : tie.Need-returns
-unfolding betterAt better
+unfolding cheaperOf better
 returns c = cond-yes _ _ _ (c .before .before .if1 .taken)
 
 returns-2 : tie.Need-returns-2
-unfolding betterAt better
+unfolding cheaperOf better
 returns-2 c = cond-no _ _ _ _ (c .if1 .left) refl
 
 pub cheaper-spec : {M : Type 1} → statement M

@@ -1,9 +1,9 @@
--- `trellis::choice::choose` meets its contract. Assumes nothing.
+-- `choice::choose` meets its contract: each turn of the loop lays the choice for one q at its place of the four planes. Assumes nothing.
 use mathlib.Core.Path.{_≡_, ap}
 use Prim.Native.Nat.{_-_, _≤_}
 use Rattle.laws.specs.Places.{laid}
 use Rattle.trellis.specs.Runs.{laid-start, laid-step, laid-end}
-use Rattle.trellis.specs.Layout.{firstAt}
+use Rattle.trellis.specs.Layout.{firstCheapestOf}
 use borrow.Author.Needs.{needs}
 use Rattle.trellis.proofs.choice.choose.Statement.{statement}
 use Rattle.trellis.proofs.choice.choose.Tie as tie
@@ -11,10 +11,10 @@ use Rattle.trellis.proofs.choice.choose.Tie as tie
 abbrev Inv-loop : tie.InvT-loop
 Inv-loop sums real imaginary from cost₀ prior₀ chosen-real₀ chosen-imaginary₀ q₀ cost prior chosen-real chosen-imaginary q =
     (q ≤ 16)
-    × (cost ≡ laid (λ k. firstAt sums real imaginary k .cost) from q cost₀)
-    × (prior ≡ laid (λ k. firstAt sums real imaginary k .prior) from q prior₀)
-    × (chosen-real ≡ laid (λ k. firstAt sums real imaginary k .real) from q chosen-real₀)
-    × (chosen-imaginary ≡ laid (λ k. firstAt sums real imaginary k .imaginary) from q chosen-imaginary₀)
+    × (cost ≡ laid (λ k. firstCheapestOf sums real imaginary k .cost) from q cost₀)
+    × (prior ≡ laid (λ k. firstCheapestOf sums real imaginary k .prior) from q prior₀)
+    × (chosen-real ≡ laid (λ k. firstCheapestOf sums real imaginary k .real) from q chosen-real₀)
+    × (chosen-imaginary ≡ laid (λ k. firstCheapestOf sums real imaginary k .imaginary) from q chosen-imaginary₀)
 
 abbrev μ-loop : tie.MeasureT-loop
 μ-loop sums real imaginary from cost₀ prior₀ chosen-real₀ chosen-imaginary₀ q₀ cost prior chosen-real chosen-imaginary q = 16 - q
@@ -79,13 +79,9 @@ loop-again c = (
 returns : tie.Need-returns Inv-loop μ-loop
 returns c = (
   laid-end _ _ _ 16 _ _ (c .before .loop .inv .1) (search needs) (search needs),
-  (
-    laid-end _ _ _ 16 _ _ (c .before .loop .inv .2) (search needs) (search needs),
-    (
-      laid-end _ _ _ 16 _ _ (c .before .loop .inv .3) (search needs) (search needs),
-      laid-end _ _ _ 16 _ _ (c .before .loop .inv .4) (search needs) (search needs),
-    ),
-  ),
+  laid-end _ _ _ 16 _ _ (c .before .loop .inv .2) (search needs) (search needs),
+  laid-end _ _ _ 16 _ _ (c .before .loop .inv .3) (search needs) (search needs),
+  laid-end _ _ _ 16 _ _ (c .before .loop .inv .4) (search needs) (search needs),
 )
 
 pub choose-spec : {M : Type 1} → statement M

@@ -1,5 +1,5 @@
--- `trellis::choice::first_cheapest` meets its contract. Assumes nothing.
-use Rattle.trellis.specs.Layout.{firstAt}
+-- `choice::first_cheapest` meets its contract: the four priors are compared one after the other, from the first on. Assumes nothing.
+use Rattle.trellis.specs.Layout.{firstCheapestOf}
 use borrow.Author.Needs.{needs}
 use Rattle.trellis.proofs.choice.first_cheapest.Statement.{statement}
 use Rattle.trellis.proofs.choice.first_cheapest.Tie as tie
@@ -26,7 +26,7 @@ cheaper-requires-4 : tie.Need-cheaper-requires-4
 cheaper-requires-4 c κs = search needs
 
 returns : tie.Need-returns
-unfolding firstAt
+unfolding firstCheapestOf
 returns c = rw (c .cheaper4 .ensures, c .before .cheaper3 .ensures, c .before .before .cheaper2 .ensures, c .before .before .before .cheaper .ensures)
 
 pub first-cheapest-spec : {M : Type 1} → statement M

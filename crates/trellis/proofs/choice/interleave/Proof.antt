@@ -1,4 +1,4 @@
--- `trellis::choice::interleave` meets its contract. Assumes nothing.
+-- `choice::interleave` meets its contract: each turn of the loop writes the four states that share a q, one for each symbol. Assumes nothing.
 use mathlib.Core.Path.{_≡_}
 use Prim.Native.Nat.{_-_, _≤_}
 use native.Mathlib.Omega.{arith}
@@ -105,7 +105,10 @@ loop-less c = search needs
 
 loop-again : tie.Need-loop-again Inv-loop μ-loop
 unfolding foursTurn
-loop-again c = (search needs, simp length-set (c .before .before .before .before .before .loop .inv .1), turns-step _ _ _ _ (c .before .before .before .before .before .loop .inv .2))
+loop-again c =
+    let size = c .before .before .before .before .before .loop .inv .1 in
+    let woven = c .before .before .before .before .before .loop .inv .2 in
+    (search needs, simp length-set size, turns-step _ _ _ _ woven)
 
 same-length : tie.Need-same-length Inv-loop μ-loop
 same-length c = search needs

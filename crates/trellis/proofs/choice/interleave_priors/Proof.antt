@@ -1,4 +1,4 @@
--- `trellis::choice::interleave_priors` meets its contract. Assumes nothing.
+-- `choice::interleave_priors` meets its contract: each turn of the loop writes the four states that share a q, and each prior fits a byte. Assumes nothing.
 use mathlib.Core.Path.{_≡_}
 use Prim.Native.Nat.{_+_, _-_, _≤_}
 use native.Mathlib.Omega.{arith}
@@ -42,7 +42,10 @@ element-copy-out-out-2 : tie.Need-element-copy-out-out-2 Inv-loop μ-loop
 element-copy-out-out-2 c = search needs
 
 cast-out-2 : tie.Need-cast-out-2 Inv-loop μ-loop
-cast-out-2 c = omega (arith, c .before .before .before .before .pre .1 .below (16 + c .before .before .before .loop .q) (omega arith))
+cast-out-2 c =
+    let priors = c .before .before .before .before .pre .1 in
+    let q = c .before .before .before .loop .q in
+    omega (arith, priors .below (16 + q) (omega arith))
 
 mul-out-4 : tie.Need-mul-out-4 Inv-loop μ-loop
 mul-out-4 c = search needs
@@ -63,7 +66,10 @@ element-copy-out-out-3 : tie.Need-element-copy-out-out-3 Inv-loop μ-loop
 element-copy-out-out-3 c = search needs
 
 cast-out-3 : tie.Need-cast-out-3 Inv-loop μ-loop
-cast-out-3 c = omega (arith, c .before .before .before .before .before .pre .1 .below (32 + c .before .before .before .before .loop .q) (omega arith))
+cast-out-3 c =
+    let priors = c .before .before .before .before .before .pre .1 in
+    let q = c .before .before .before .before .loop .q in
+    omega (arith, priors .below (32 + q) (omega arith))
 
 mul-out-6 : tie.Need-mul-out-6 Inv-loop μ-loop
 mul-out-6 c = search needs
@@ -84,7 +90,10 @@ element-copy-out-out-4 : tie.Need-element-copy-out-out-4 Inv-loop μ-loop
 element-copy-out-out-4 c = search needs
 
 cast-out-4 : tie.Need-cast-out-4 Inv-loop μ-loop
-cast-out-4 c = omega (arith, c .before .before .before .before .before .before .pre .1 .below (48 + c .before .before .before .before .before .loop .q) (omega arith))
+cast-out-4 c =
+    let priors = c .before .before .before .before .before .before .pre .1 in
+    let q = c .before .before .before .before .before .loop .q in
+    omega (arith, priors .below (48 + q) (omega arith))
 
 mul-out-8 : tie.Need-mul-out-8 Inv-loop μ-loop
 mul-out-8 c = search needs
@@ -103,7 +112,9 @@ loop-less c = search needs
 
 loop-again : tie.Need-loop-again Inv-loop μ-loop
 unfolding foursTurn
-loop-again c = (search needs, turns-step _ _ _ _ (c .before .before .before .before .before .loop .inv .1))
+loop-again c =
+    let woven = c .before .before .before .before .before .loop .inv .1 in
+    (search needs, turns-step _ _ _ _ woven)
 
 returns : tie.Need-returns Inv-loop μ-loop
 returns c = fours-end _ 0 _ _ _ (c .before .loop .inv .1) (search needs) (search needs) (c .before .before .pre .0)

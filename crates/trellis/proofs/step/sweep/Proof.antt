@@ -1,4 +1,4 @@
--- `trellis::step::sweep` meets its contract. Assumes nothing.
+-- `step::sweep` meets its contract: the choice among the branches that `branches` has written for the symbol k. Assumes nothing.
 use mathlib.Core.Path.{ap, _∙_}
 use lib.ListN.{length}
 use Rattle.laws.specs.Places.{length-upto}
@@ -23,19 +23,17 @@ choose-requires : tie.Need-choose-requires
 choose-requires c κs = search needs
 
 returns : tie.Need-returns
-returns c = (
-  sweep-is (λ b. b .cost) _ _ _ _ _ _ _ _ _ _ _ _ _ (c .before .before .before .before .before .before .before .before .before .before .before .before .symbol .ensures) (c .before .before .before .before .before .before .before .before .branches .ensures .0) (c .before .before .before .before .before .before .before .before .branches .ensures .1 .0) (c .before .before .before .before .before .before .before .before .branches .ensures .1 .1) (c .choose .ensures .0),
-  (
-    sweep-is (λ b. b .prior) _ _ _ _ _ _ _ _ _ _ _ _ _ (c .before .before .before .before .before .before .before .before .before .before .before .before .symbol .ensures) (c .before .before .before .before .before .before .before .before .branches .ensures .0) (c .before .before .before .before .before .before .before .before .branches .ensures .1 .0) (c .before .before .before .before .before .before .before .before .branches .ensures .1 .1) (c .choose .ensures .1 .0),
-    (
-      sweep-is (λ b. b .real) _ _ _ _ _ _ _ _ _ _ _ _ _ (c .before .before .before .before .before .before .before .before .before .before .before .before .symbol .ensures) (c .before .before .before .before .before .before .before .before .branches .ensures .0) (c .before .before .before .before .before .before .before .before .branches .ensures .1 .0) (c .before .before .before .before .before .before .before .before .branches .ensures .1 .1) (c .choose .ensures .1 .1 .0),
+returns c =
+    let s = c .before .before .before .before .before .before .before .before .before .before .before .before .symbol .ensures in
+    let written = c .before .before .before .before .before .before .before .before .branches .ensures in (
       (
-        sweep-is (λ b. b .imaginary) _ _ _ _ _ _ _ _ _ _ _ _ _ (c .before .before .before .before .before .before .before .before .before .before .before .before .symbol .ensures) (c .before .before .before .before .before .before .before .before .branches .ensures .0) (c .before .before .before .before .before .before .before .before .branches .ensures .1 .0) (c .before .before .before .before .before .before .before .before .branches .ensures .1 .1) (c .choose .ensures .1 .1 .1),
-        (ap length (c .before .before .before .before .before .before .before .before .branches .ensures .0) ∙ length-upto _ 64, ap length (c .before .before .before .before .before .before .before .before .branches .ensures .1 .0) ∙ length-upto _ 64, ap length (c .before .before .before .before .before .before .before .before .branches .ensures .1 .1) ∙ length-upto _ 64),
+        sweep-is (λ b. b .cost) _ _ _ _ _ _ _ _ _ _ _ _ _ s (written .0) (written .1) (written .2) (c .choose .ensures .0),
+        sweep-is (λ b. b .prior) _ _ _ _ _ _ _ _ _ _ _ _ _ s (written .0) (written .1) (written .2) (c .choose .ensures .1),
+        sweep-is (λ b. b .real) _ _ _ _ _ _ _ _ _ _ _ _ _ s (written .0) (written .1) (written .2) (c .choose .ensures .2),
+        sweep-is (λ b. b .imaginary) _ _ _ _ _ _ _ _ _ _ _ _ _ s (written .0) (written .1) (written .2) (c .choose .ensures .3),
       ),
-    ),
-  ),
-)
+      (ap length (written .0) ∙ length-upto _ 64, ap length (written .1) ∙ length-upto _ 64, ap length (written .2) ∙ length-upto _ 64),
+    )
 
 pub sweep-spec : {M : Type 1} → statement M
 sweep-spec =
