@@ -44,9 +44,6 @@ fn rows(profile: i32, rounds: u64) -> u64 {
 fn main() {
     let mut line = String::new();
     std::io::stdin().read_line(&mut line).unwrap();
-    let h = match line.bytes().next() {
-        Some(b'1') => rows(1, 8000),
-        _ => rows(0, 8000),
-    };
+    let h = rows(if line.trim() == "1" { 1 } else { 0 }, 8000);
     println!("{h:016x}");
 }

@@ -75,11 +75,10 @@ fn mixes(rounds: u64, profile: i32) -> u64 {
 fn main() {
     let mut line = String::new();
     std::io::stdin().read_line(&mut line).unwrap();
-    let h = match line.bytes().next() {
-        Some(b'c') => symbols(4000),
-        Some(b'm') => mixes(40000, 0),
-        Some(b'p') => mixes(40000, 1),
-        _ => mixed(symbols(1), mixes(1, 1)),
+    let h = match line.trim() {
+        "clock" => symbols(4000),
+        "mixer" => mixes(40000, 0),
+        _ => mixes(40000, 1),
     };
     println!("{h:016x}");
 }

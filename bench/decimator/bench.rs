@@ -16,7 +16,7 @@ include!("half.rs");
 fn main() {
     let mut line = String::new();
     std::io::stdin().read_line(&mut line).unwrap();
-    let decimation = line.as_bytes()[0] as usize - 32;
+    let decimation: usize = line.trim().parse().unwrap();
     let d = decimation as f64;
     let mut s = 1;
     let samples: Vec<f32> = (0..8192)

@@ -65,12 +65,7 @@ fn run(rate: f64, blocks: u64) -> u64 {
 fn main() {
     let mut line = String::new();
     std::io::stdin().read_line(&mut line).unwrap();
-    let number = line.bytes().next().map_or(0, |b| b as usize);
-    let rates = [9600.0, 48000.0, 256000.0, 384000.0, 1000000.0, 2400000.0, 20000000.0];
-    let h = match number {
-        0..65 => run(48000.0, 1),
-        65 | 66 => run(rates[number - 65], 4000),
-        _ => run(rates[number - 65], 20000),
-    };
+    let rate: f64 = line.trim().parse().unwrap();
+    let h = run(rate, if rate < 256000.0 { 4000 } else { 20000 });
     println!("{h:016x}");
 }

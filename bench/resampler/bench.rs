@@ -35,12 +35,11 @@ fn passes(rate: f64, rounds: u64) -> u64 {
 fn main() {
     let mut line = String::new();
     std::io::stdin().read_line(&mut line).unwrap();
-    let h = match line.as_bytes()[0] {
-        b'a' => passes(9600.0, 14000),
-        b'b' => passes(48000.0, 3000),
-        b'c' => passes(192000.0, 750),
-        b'd' => passes(383999.0, 375),
-        _ => 0,
+    let h = match line.trim() {
+        "9600" => passes(9600.0, 14000),
+        "48000" => passes(48000.0, 3000),
+        "192000" => passes(192000.0, 750),
+        _ => passes(383999.0, 375),
     };
     print!("{h:016x}");
 }

@@ -40,10 +40,6 @@ fn steps(rounds: u64, all: bool) -> u64 {
 fn main() {
     let mut line = String::new();
     std::io::stdin().read_line(&mut line).unwrap();
-    let h = match line.bytes().next() {
-        Some(b'a') => steps(500, true),
-        Some(b'g') => steps(500, false),
-        _ => steps(1, false),
-    };
+    let h = steps(500, line.trim() == "all");
     println!("{h:016x}");
 }

@@ -61,13 +61,12 @@ fn steps(rounds: u64) -> u64 {
 }
 
 fn main() {
-    let mut which = [0];
-    let _ = std::io::Read::read(&mut std::io::stdin(), &mut which);
-    let h = match which[0] {
-        b'p' => pushes(40000),
-        b'r' => reads(400000),
-        b'e' => steps(4000000),
-        _ => mixed(0, 0),
+    let mut line = String::new();
+    std::io::stdin().read_line(&mut line).unwrap();
+    let h = match line.trim() {
+        "push" => pushes(40000),
+        "read" => reads(400000),
+        _ => steps(4000000),
     };
     println!("{h:016x}");
 }
