@@ -15,6 +15,7 @@ use Rattle.trellis.specs.Metric.{c0, nought}
 use Rattle.trellis.specs.Costs.{c48, Good, fresh-good, good-same}
 use Rattle.trellis.specs.Bound.{good-step}
 use Rattle.sequence.specs.declared.soft.Soft.{Soft}
+use Rattle.lms_detector.specs.Detector as lms_detector
 use Rattle.sequence.specs.Sequence as sequence
 use Rattle.carrier.specs.Carrier as carrier
 use Rattle.recovery.specs.declared.step.Found.{Found}
@@ -40,7 +41,7 @@ GoodCosts costs = Good (λ s. getD costs s nan)
 
 -- ---- a value: the costs stay as they are, or the trellis takes a step
 heard-keeps : (f : Found) (r : recovery.RecoveryState) (d : decisions.DecisionsState) (oldest : Soft) → GoodCosts (d .costs) → GoodCosts (heardOf f r d oldest .state .costs)
-unfolding heardOf decisions.decidedOf carrier.carriedOf sequence.detectedOf sequence.detectedWith
+unfolding heardOf decisions.decidedOf carrier.carriedOf lms_detector.detectedOf lms_detector.detectedWith sequence.steppedOf sequence.steppedWith
 heard-keeps Nothing r d oldest g = g
 heard-keeps (Here z reliable) r d oldest g = good-step (d .channels) (d .costs) (carrier.correctedOf (d .place .carrier .turn) z) reliable g
 

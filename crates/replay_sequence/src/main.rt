@@ -3,7 +3,7 @@
 // in the order of the list that the oracle prints.
 ghost use Prim.Native.Nat.{_<_, _≤_};
 ghost use lib.ListN.{length};
-ghost use Rattle.sequence.specs.Ranges.{Ranged};
+ghost use Rattle.lms_detector.specs.Ranges.{Ranged};
 use complex::Complex32;
 use numbers::bits::float32;
 use replay::fill;
@@ -82,7 +82,7 @@ fn run(
         let mut step = [0u8; 16];
         io::read_full(0, &mut step);
         let write = p.write;
-        let d = sequence::step::step(
+        let d = lms_detector::step(
             p,
             input(word(&step, 0)),
             word(&step, 8) == 1,

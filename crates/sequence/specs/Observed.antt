@@ -17,6 +17,12 @@ use Rattle.sequence.specs.declared.soft.Soft.{Soft}
 use Rattle.sequence.specs.declared.soft.Soft.the-variants.{Unrecorded, Recorded}
 use Rattle.sequence.specs.declared.soft.Slot.{Slot}
 
+abbrev pub zero32 : Float
+zero32 = ofBits binary32 0
+
+abbrev pub one32 : Float
+one32 = ofBits binary32 0x3f800000  -- 1
+
 -- ---- the observation
 
 -- the input less the products of the prior's later taps with its own symbols

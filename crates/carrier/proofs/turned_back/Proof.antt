@@ -1,5 +1,5 @@
 -- `carrier::turned_back` meets its contract. Assumes nothing.
-use Rattle.carrier.specs.Carrier.{turnedBack}
+use Rattle.carrier.specs.Carrier.{turnedBackOf}
 use borrow.Author.Needs.{needs}
 use Rattle.carrier.proofs.turned_back.Statement.{statement}
 use Rattle.carrier.proofs.turned_back.Tie as tie
@@ -14,7 +14,7 @@ narrowed-requires : tie.Need-narrowed-requires
 narrowed-requires c κs = search needs
 
 returns : tie.Need-returns
-unfolding turnedBack
+unfolding turnedBackOf
 returns c = rw (c .narrowed .ensures, c .before .before .before .before .before .widen2 .ensures, c .before .before .before .before .before .before .widen .ensures)
 
 pub turned-back-spec : {M : Type 1} → statement M

@@ -1,5 +1,5 @@
 -- `replay_sequence::run` is safe and ends: each step leaves a detector that may be run. Assumes nothing.
-use Rattle.sequence.specs.Ranges.{Ranged}
+use Rattle.lms_detector.specs.Ranges.{Ranged}
 use native.Mathlib.Omega.{arith}
 use borrow.Author.Needs.{needs}
 use Rattle.replay_sequence.proofs.run.Statement.{statement}
@@ -36,13 +36,13 @@ word-requires-2 : tie.Need-word-requires-2 Inv-loop μ-loop
 word-requires-2 c κs = search needs
 
 oldest-requires : tie.Need-oldest-requires Inv-loop μ-loop
-oldest-requires c κs = c .before .before .before .before .before .before .before .before .before .loop .inv .write
+oldest-requires c κs = c .before .before .before .before .before .before .before .before .before .loop .inv .skeleton .write
 
 step-requires : tie.Need-step-requires Inv-loop μ-loop
 step-requires c κs = c .before .before .before .before .before .before .before .before .before .before .before .before .before .before .loop .inv
 
 stored-requires : tie.Need-stored-requires Inv-loop μ-loop
-stored-requires c κs = c .before .before .before .before .before .before .before .before .before .before .before .before .before .before .before .loop .inv .write
+stored-requires c κs = c .before .before .before .before .before .before .before .before .before .before .before .before .before .before .before .loop .inv .skeleton .write
 
 tell-requires : tie.Need-tell-requires Inv-loop μ-loop
 tell-requires c κs = search needs

@@ -6,16 +6,16 @@ use Rattle.decisions.proofs.link.link.Statement.{statement}
 use Rattle.decisions.proofs.link.link.Tie as tie
 
 oldest-requires : tie.Need-oldest-requires
-oldest-requires c κs = c .before .before .before .before .before .before .pre .state .carrier .detector .write
+oldest-requires c κs = c .before .before .before .before .before .before .pre .state .carrier .detector .skeleton .write
 
 step-requires : tie.Need-step-requires
 step-requires c κs = (c .before .before .before .before .before .before .before .before .before .before .before .before .before .pre .state, omega (arith, c .before .before .before .before .before .before .before .before .before .before .before .before .before .pre .symbols))
 
 mul-t31 : tie.Need-mul-t31
-mul-t31 c = let w = c .before .before .before .before .before .before .before .before .before .before .before .before .before .before .before .pre .state .carrier .detector .write in search (needs, w)
+mul-t31 c = let w = c .before .before .before .before .before .before .before .before .before .before .before .before .before .before .before .pre .state .carrier .detector .skeleton .write in search (needs, w)
 
 element-set-from-records : tie.Need-element-set-from-records
-element-set-from-records c = let w = c .before .before .before .before .before .before .before .before .before .before .before .before .before .before .before .pre .state .carrier .detector .write in search (needs, w)
+element-set-from-records c = let w = c .before .before .before .before .before .before .before .before .before .before .before .before .before .before .before .pre .state .carrier .detector .skeleton .write in search (needs, w)
 
 noted-requires : tie.Need-noted-requires
 noted-requires c κs = c .before .before .before .before .before .before .before .before .before .before .before .before .before .before .before .before .before .pre .room

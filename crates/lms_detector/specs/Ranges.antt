@@ -1,0 +1,18 @@
+-- The ranges of the skeleton and the lengths of the channels: what a step needs, and leaves. Definitions only.
+use mathlib.Core.Path.{_≡_}
+use Prim.Native.Nat.{ℕ}
+use mathlib.Core.List.{List}
+use lib.ListN.{length}
+use lib.Ieee.{Float}
+use Rattle.sequence.specs.declared.step.DetectorPlace.{DetectorPlace}
+use Rattle.sequence.specs.Ranges as Sequence
+use Rattle.lms_detector.specs.Detector.{Run}
+
+pub record Ranged (d : DetectorPlace) (real imaginary costs : List Float) (parents : List ℕ) : Type 0 where
+  pub skeleton : Sequence.Ranged d costs parents
+  pub real-size : length real ≡ 256
+  pub imaginary-size : length imaginary ≡ 256
+
+-- what a step leaves is in range
+abbrev pub Kept : Run → Type 0
+Kept r = Ranged (r .detected .place) (r .channels .real) (r .channels .imaginary) (r .costs) (r .parents)
