@@ -2,3 +2,4 @@ pub mod Carrier
 pub mod Ranges
 pub mod Lends
 pub mod Laws
+pub mod AdmittedLaws

@@ -2,7 +2,8 @@
 // constellation's alternation, and follows the phase of what the detector missed by.
 ghost use mathlib.Core.Path.{_≡_};
 ghost use Prim.Native.Nat.{_≤_};
-ghost use Rattle.carrier.specs.Carrier.{freshPlace, rotationOf, turnedBackOf, correctedOf, unwoundOf, phaseErrorOf, frequencyAfterOf, phaseAfterOf, errorAfterOf, isLocked, loopAfterOf, carriedOf};
+ghost use Rattle.carrier.specs.Carrier.{freshPlace, admittedOf, rotationOf, turnedBackOf, correctedOf, unwoundOf, phaseErrorOf};
+ghost use Rattle.carrier.specs.Carrier.{frequencyAfterOf, phaseAfterOf, errorAfterOf, isLocked, loopAfterOf, carriedOf};
 ghost use Rattle.carrier.specs.Ranges.{Ranged, Kept};
 ghost use Rattle.carrier.specs.Lends.{leaves};
 use complex::Complex32;
@@ -61,6 +62,15 @@ pub fn fresh() -> CarrierPlace
         },
         detector: sequence::step::fresh(),
     }
+}
+
+// The alternation is at most 7, and the detector's place may be run.
+pub fn is_admitted(c: CarrierPlace) -> bool
+    ensures { λ b. ⌜ b ≡ admittedOf c ⌝ }
+{
+    let turn = c.turn;
+    let detector = c.detector;
+    (turn.alternation <= 7) & sequence::admitted::is_admitted(detector)
 }
 
 // The constellation turns by pi / 4 with each symbol.

@@ -17,8 +17,8 @@ use Rattle.sequence.specs.declared.walk.Previous.the-variants.{Symbol}
 use Rattle.sequence.specs.declared.walk.Answer.the-variants.{Silent}
 use Rattle.sequence.specs.declared.walk.Walked.{Walked}
 use Rattle.sequence.specs.Observed.{slotOf}
-use Rattle.sequence.specs.Walk.{storedOf, parentBefore, stateBefore, decidedOf, walkedOf}
-use Rattle.sequence.specs.Sequence.{oneMore, reportedOf, steppedWith, steppedOf}
+use Rattle.sequence.specs.Walk.{storedOf, parentBefore, stateBeforeOf, decidedOf, walkedOf}
+use Rattle.sequence.specs.Sequence.{oneMoreOf, reportedOf, steppedWith, steppedOf}
 use Rattle.sequence.specs.Ranges.{Sound}
 use Rattle.sequence.specs.Laws.{walk-silent, walk-full}
 use Rattle.sequence.specs.Steps.{below-is, above-is, stored-row, stored-other, stepped-kept}
@@ -71,7 +71,7 @@ holds-step d i made h o = record { rows = rows; softs = softs }
     w = d .place .write
 
     in-ring : d .place .write < 32
-    in-ring = h .ranged .write
+    in-ring = h .ranged .place .write
 
     rows : (k s : ℕ) → k < 32 → k < suc (length made) → s < 64
         → getD (afterOf d i .parents) (64 * ((afterOf d i .place .write + 31 - k) % 32) + s) 0 ≡ getD (madeAt (madeBy d i ∷ made) k .row) s 0
@@ -109,11 +109,11 @@ place-read w k h l = omega arith
 module _ (d : Skeleton) (i : Step) (made : List Made) (h : Sound d) (o : Holds d made) (enough : 30 ≤ length made) where
   read-at : (k s : ℕ) → k < 31 → s < 64 → parentBefore (leftOf d i .parents) (d .place .write) k s ≡ getD (madeAt (madeBy d i ∷ made) k .row) s 0
   read-at k s a l =
-      ap (λ (z : ℕ). getD (leftOf d i .parents) (64 * z + s) 0) (sym (ap (λ (z : ℕ). (z + 31 - k) % 32) (next-write d i) ∙ place-read (d .place .write) k (h .ranged .write) (omega arith)))
+      ap (λ (z : ℕ). getD (leftOf d i .parents) (64 * z + s) 0) (sym (ap (λ (z : ℕ). (z + 31 - k) % 32) (next-write d i) ∙ place-read (d .place .write) k (h .ranged .place .write) (omega arith)))
       ∙ holds-step d i made h o .rows k s (omega arith) (omega arith) l
 
   read-below : (k s : ℕ) → k < 31 → s < 64 → parentBefore (leftOf d i .parents) (d .place .write) k s < 64
-  read-below k s a l = let w = h .ranged .write in step-sound d i h .ranged .table .below (64 * ((d .place .write + 32 - k) % 32) + s) (omega arith)
+  read-below k s a l = let w = h .ranged .place .write in step-sound d i h .ranged .table .below (64 * ((d .place .write + 32 - k) % 32) + s) (omega arith)
 
   walked-below : (n best : ℕ) → n ≤ 31 → best < 64 → turns (parentBefore (leftOf d i .parents) (d .place .write)) n best < 64
   unfolding turns
@@ -127,19 +127,19 @@ module _ (d : Skeleton) (i : Step) (made : List Made) (h : Sound d) (o : Holds d
       read-at n _ (omega arith) (walked-below n best (omega arith) l) ∙ ap (λ (z : ℕ). getD (madeAt (madeBy d i ∷ made) n .row) z 0) (walked-is n best (omega arith) l)
 
   -- the 31 newest parents: the step's own and those of the 30 before it
-  pub state-traced : (best : ℕ) → best < 64 → stateBefore (leftOf d i .parents) (d .place .write) best ≡ traced (madeBy d i ∷ made) 31 best
-  unfolding stateBefore
+  pub state-traced : (best : ℕ) → best < 64 → stateBeforeOf (leftOf d i .parents) (d .place .write) best ≡ traced (madeBy d i ∷ made) 31 best
+  unfolding stateBeforeOf
   state-traced best l = walked-is 31 best (omega arith) l
 
 -- the record of 31 steps before
 pub oldest-made : (d : Skeleton) (made : List Made) → Sound d → Holds d made → 31 ≤ length made → oldestOf d ≡ madeAt made 30 .soft
 oldest-made d made h o l =
-    let w = h .ranged .write in
+    let w = h .ranged .place .write in
     let e : (d .place .write + 1) % 32 ≡ (d .place .write + 31 - 30) % 32 = omega arith in
     ap (λ (z : ℕ). getD (d .records .slots) z (slotOf Unrecorded) .soft) e ∙ o .softs 30 (omega arith) (omega arith)
 
 -- ---- how many steps are held
-pub filled-next : (d : Skeleton) (i : Step) → afterOf d i .place .filled ≡ oneMore (d .place .filled)
+pub filled-next : (d : Skeleton) (i : Step) → afterOf d i .place .filled ≡ oneMoreOf (d .place .filled)
 unfolding steppedOf steppedWith reportedOf
 filled-next d i = refl
 
@@ -147,7 +147,7 @@ filled-least : (d : Skeleton) (is : List Step) (n : ℕ) → n ≤ 32 → n ≤ 
 filled-least d [] n a l = omega arith
 filled-least d (i ∷ is) n a l = filled-least (afterOf d i) is n a (rw (filled-next d i) (go (d .place .filled) (length is) l))
   where
-    go : (f m : ℕ) → n ≤ f + suc m → n ≤ oneMore f + m
+    go : (f m : ℕ) → n ≤ f + suc m → n ≤ oneMoreOf f + m
     go f m l =
         ⊎-elim
         (λ b. subst (λ (z : ℕ). n ≤ z + m) (below-is f 32 (f + 1) 32 b) (omega arith))
@@ -160,7 +160,7 @@ bestState d i = advancedOf (i .channels) (d .costs) (i .value) (i .reliable) .be
 
 -- where the walk back ends
 abbrev pub endOf : Skeleton → Step → ℕ
-endOf d i = stateBefore (leftOf d i .parents) (d .place .write) (bestState d i)
+endOf d i = stateBeforeOf (leftOf d i .parents) (d .place .write) (bestState d i)
 
 abbrev walkOf : Skeleton → Step → Walked
 walkOf d i = walkedOf (leftOf d i .parents) (d .place .write) (d .place .filled) (bestState d i) (d .place .previous) (oldestOf d)

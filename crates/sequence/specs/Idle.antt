@@ -27,8 +27,8 @@ use Rattle.sequence.specs.declared.walk.Previous.{Previous}
 use Rattle.sequence.specs.declared.walk.Previous.the-variants.{Unknown, Symbol}
 use Rattle.sequence.specs.declared.walk.Answer.{Answer}
 use Rattle.sequence.specs.declared.walk.Answer.the-variants.{Silent, Dibit}
-use Rattle.sequence.specs.Observed.{seenWith, seenOf, recordOf, slotOf}
-use Rattle.sequence.specs.Walk.{storedOf, parentBefore, stateBefore, decidedOf}
+use Rattle.sequence.specs.Observed.{observedWith, observedOf, recordOf, slotOf}
+use Rattle.sequence.specs.Walk.{storedOf, parentBefore, stateBeforeOf, decidedOf}
 use Rattle.sequence.specs.Sequence.{freshRecords, reportedOf, steppedWith, steppedOf}
 use Rattle.sequence.specs.Ranges.{Sound}
 use Rattle.sequence.specs.Steps.{below-is, above-is, same-or-other, stored-row, stored-other}
@@ -144,8 +144,8 @@ idle-fresh = record {
   previous = tt;
 }
 
-unseen : (input : Complex32) (reliable : Bool) (t : Taps) (p : ℕ) → reliable ≡ false → seenOf input reliable t p .combined ≡ Absent
-unfolding seenOf seenWith
+unseen : (input : Complex32) (reliable : Bool) (t : Taps) (p : ℕ) → reliable ≡ false → observedOf input reliable t p .combined ≡ Absent
+unfolding observedOf observedWith
 unseen input reliable t p e = rw e
 
 no-record : (now before : Observation) (noise : Float) → now ≡ Absent → recordOf now before noise ≡ Unrecorded
@@ -166,9 +166,9 @@ module _ (d : Skeleton) (i : Step) (h : Idle d) (off : i .reliable ≡ false) wh
       ap (λ (z : List ℕ). getD z (64 * w + 0) 0) (next-parents d i)
       ∙ ⊎-elim
       (λ e. ap (λ (z : ℕ). getD (storedOf (d .parents) (d .place .write) (madeBy d i .row)) (64 * z + 0) 0) e
-      ∙ stored-row (d .parents) (d .place .write) (madeBy d i .row) (r .write) (r .parents-size) 0 (omega arith)
+      ∙ stored-row (d .parents) (d .place .write) (madeBy d i .row) (r .place .write) (r .parents-size) 0 (omega arith)
       ∙ root-made)
-      (λ n. stored-other (d .parents) (d .place .write) (madeBy d i .row) (r .write) (r .parents-size) w 0 (omega arith) n ∙ h .roots w l)
+      (λ n. stored-other (d .parents) (d .place .write) (madeBy d i .row) (r .place .write) (r .parents-size) w 0 (omega arith) n ∙ h .roots w l)
       (same-or-other w (d .place .write))
 
   back-zero : (n : ℕ) → n ≤ 31 → turns (parentBefore (leftOf d i .parents) (d .place .write)) n 0 ≡ 0
@@ -177,7 +177,7 @@ module _ (d : Skeleton) (i : Step) (h : Idle d) (off : i .reliable ≡ false) wh
   back-zero (suc n) l = ap (parentBefore (leftOf d i .parents) (d .place .write) n) (back-zero n (omega arith)) ∙ new-roots ((d .place .write + 32 - n) % 32) (omega arith)
 
   state-zero : endOf d i ≡ 0
-  unfolding stateBefore
+  unfolding stateBeforeOf
   state-zero = ap (turns (parentBefore (leftOf d i .parents) (d .place .write)) 31) (best-zero (i .channels) (d .costs) (i .value) (i .reliable) off (h .costs)) ∙ back-zero 31 (omega arith)
 
   still : AtZero (afterOf d i .place .previous)
@@ -193,7 +193,7 @@ module _ (d : Skeleton) (i : Step) (h : Idle d) (off : i .reliable ≡ false) wh
       let r = h .sound in
       ⊎-elim
       (λ e. ap (λ (z : ℕ). getD (afterOf d i .records .slots) z (slotOf Unrecorded) .soft) e
-      ∙ ap (λ (z : Slot). z .soft) (getD-set-same (d .records .slots) (d .place .write) (slotOf (madeBy d i .soft)) (slotOf Unrecorded) (rw (r .slots) (r .ranged .write)))
+      ∙ ap (λ (z : Slot). z .soft) (getD-set-same (d .records .slots) (d .place .write) (slotOf (madeBy d i .soft)) (slotOf Unrecorded) (rw (r .slots) (r .ranged .place .write)))
       ∙ unrecorded d i off)
       (λ n. ap (λ (z : Slot). z .soft) (getD-set-other (d .records .slots) (d .place .write) k (slotOf (madeBy d i .soft)) (slotOf Unrecorded) n) ∙ h .softs k l)
       (same-or-other k (d .place .write))

@@ -10,10 +10,13 @@ use Rattle.sequence.specs.Walk.{Table, Earlier}
 use Rattle.sequence.specs.Sequence.{Stepped}
 use Rattle.sequence.specs.Skeleton.{Skeleton}
 
-pub record Ranged (d : DetectorPlace) (costs : List Float) (parents : List ℕ) : Type 0 where
+pub record PlaceRanged (d : DetectorPlace) : Type 0 where
   pub write : d .write < 32
   pub filled : d .filled ≤ 32
   pub earlier : Earlier (d .previous)
+
+pub record Ranged (d : DetectorPlace) (costs : List Float) (parents : List ℕ) : Type 0 where
+  pub place : PlaceRanged d
   pub table : Table parents
   pub costs-size : length costs ≡ 64
   pub parents-size : length parents ≡ 2048

@@ -21,14 +21,16 @@ use Rattle.sequence.specs.declared.walk.Previous.the-variants.{Unknown}
 use Rattle.sequence.specs.declared.walk.Walked.{Walked}
 use Rattle.sequence.specs.declared.step.DetectorPlace.{DetectorPlace}
 use Rattle.sequence.specs.declared.step.Detected.{Detected}
-use Rattle.sequence.specs.Observed.{zero32, one32, seenOf, noiseAfter, recordOf, slotOf}
+use Rattle.sequence.specs.Observed.{zero32, one32, observedOf, noiseAfterOf, recordOf, slotOf}
 use Rattle.sequence.specs.Walk.{storedOf, walkedOf}
 
 -- ---- a fresh detector
 
--- the noise is 0.1
+abbrev pub freshNoise : Float
+freshNoise = ofBits binary32 0x3dcccccd  -- 0.1
+
 abbrev pub freshPlace : DetectorPlace
-freshPlace = record { write = 0; filled = 0; previous = Unknown; combined = Absent; noise = ofBits binary32 1036831949 }
+freshPlace = record { write = 0; filled = 0; previous = Unknown; combined = Absent; noise = freshNoise }
 
 -- the main tap of each state is 1, and all else is 0
 abbrev pub freshTap : ℕ → Float
@@ -43,22 +45,22 @@ freshRecords = record { slots = replicate 32 (slotOf Unrecorded) }
 -- ---- what the carrier is told: nothing of an unreliable input
 
 -- the angle from the prediction to the input
-unfoldable pub phaseBetween : Complex32 → Complex32 → Bool → Float
-phaseBetween input prediction reliable = cond reliable (arctangentOf (conjugateProductOf input prediction .imaginary) (conjugateProductOf input prediction .real)) zero32
+unfoldable pub phaseBetweenOf : Complex32 → Complex32 → Bool → Float
+phaseBetweenOf input prediction reliable = cond reliable (arctangentOf (conjugateProductOf input prediction .imaginary) (conjugateProductOf input prediction .real)) zero32
 
-unfoldable pub powerTold : Float → Bool → Float
-powerTold power reliable = cond reliable power one32
+unfoldable pub powerToldOf : Float → Bool → Float
+powerToldOf power reliable = cond reliable power one32
 
 -- ---- the step
 
 -- at most 32 steps are held
-abbrev pub oneMore : ℕ → ℕ
-oneMore filled = cond (ltb filled 32) (filled + 1) 32
+abbrev pub oneMoreOf : ℕ → ℕ
+oneMoreOf filled = cond (ltb filled 32) (filled + 1) 32
 
 -- from the walk back, the observation, and the residual's power and phase, with the noise after it
 abbrev pub reportedWith : DetectorPlace → Walked → Seen → Float → Float → Float → Detected
 reportedWith d walked seen noise phase power = record {
-  place = record { write = (d .write + 1) % 32; filled = oneMore (d .filled); previous = walked .previous; combined = seen .combined; noise = noise };
+  place = record { write = (d .write + 1) % 32; filled = oneMoreOf (d .filled); previous = walked .previous; combined = seen .combined; noise = noise };
   answer = walked .answer;
   soft = recordOf (seen .combined) (d .combined) noise;
   equalized = seen .equalized;
@@ -69,9 +71,9 @@ reportedWith d walked seen noise phase power = record {
 unfoldable pub reportedOf : DetectorPlace → Walked → Seen → Complex32 → Complex32 → Bool → Detected
 reportedOf d walked seen input prediction reliable =
     reportedWith d walked seen
-    (noiseAfter (d .noise) (powerOf (differenceOf input prediction)) reliable)
-    (phaseBetween input prediction reliable)
-    (powerTold (powerOf (differenceOf input prediction)) reliable)
+    (noiseAfterOf (d .noise) (powerOf (differenceOf input prediction)) reliable)
+    (phaseBetweenOf input prediction reliable)
+    (powerToldOf (powerOf (differenceOf input prediction)) reliable)
 
 -- what a step leaves, with each state's parent and prediction at this step, which a tracker follows by
 pub record Stepped : Type 0 where
@@ -91,7 +93,7 @@ steppedWith d input reliable oldest channels parents a = record {
   detected =
       reportedOf d
       (walkedOf (storedOf parents (d .write) (a .parents)) (d .write) (d .filled) (a .best) (d .previous) oldest)
-      (seenOf input reliable (tapsOf channels (priorOf a)) (priorOf a))
+      (observedOf input reliable (tapsOf channels (priorOf a)) (priorOf a))
       input (pointAt (a .predictions) (a .best)) reliable;
   costs = a .costs;
   parents = storedOf parents (d .write) (a .parents);

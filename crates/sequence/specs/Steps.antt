@@ -26,9 +26,9 @@ use Rattle.sequence.specs.declared.walk.Answer.the-variants.{Silent}
 use Rattle.sequence.specs.declared.walk.Walked.{Walked}
 use Rattle.sequence.specs.declared.step.DetectorPlace.{DetectorPlace}
 use Rattle.sequence.specs.declared.step.Detected.{Detected}
-use Rattle.sequence.specs.Observed.{seenOf}
-use Rattle.sequence.specs.Walk.{storedOf, stateBefore, Table, Earlier, decidedOf, walkedOf}
-use Rattle.sequence.specs.Sequence.{oneMore, reportedOf, Stepped, steppedWith, steppedOf}
+use Rattle.sequence.specs.Observed.{observedOf}
+use Rattle.sequence.specs.Walk.{storedOf, stateBeforeOf, Table, Earlier, decidedOf, walkedOf}
+use Rattle.sequence.specs.Sequence.{oneMoreOf, reportedOf, Stepped, steppedWith, steppedOf}
 use Rattle.sequence.specs.Ranges.{Ranged, Kept}
 
 -- ---- a test of two numbers
@@ -89,11 +89,11 @@ walked-earlier : (parents : List ℕ) (newest filled best : ℕ) (previous : Pre
 unfolding walkedOf
 walked-earlier parents newest filled best previous oldest h = go (ltb filled 31)
   where
-    go : (b : Bool) → Earlier ((cond {A = Walked} b (record { previous = previous; answer = Silent }) (record { previous = Symbol (stateBefore parents newest best % 4); answer = decidedOf (stateBefore parents newest best % 4) previous oldest })) .previous)
+    go : (b : Bool) → Earlier ((cond {A = Walked} b (record { previous = previous; answer = Silent }) (record { previous = Symbol (stateBeforeOf parents newest best % 4); answer = decidedOf (stateBeforeOf parents newest best % 4) previous oldest })) .previous)
     go true = h
     go false = omega arith
 
-more-most : (filled : ℕ) → oneMore filled ≤ 32
+more-most : (filled : ℕ) → oneMoreOf filled ≤ 32
 more-most filled = ⊎-elim (λ l. subst (λ (k : ℕ). k ≤ 32) (below-is filled 32 (filled + 1) 32 l) (omega arith)) (λ g. subst (λ (k : ℕ). k ≤ 32) (above-is filled 32 (filled + 1) 32 g) (omega arith)) (lt-or-ge filled 32)
 
 pub stepped-kept : (d : DetectorPlace) (input : Complex32) (reliable : Bool) (oldest : Soft) (c : Planes) (costs : List Float) (parents : List ℕ)
@@ -101,12 +101,14 @@ pub stepped-kept : (d : DetectorPlace) (input : Complex32) (reliable : Bool) (ol
 unfolding steppedOf steppedWith reportedOf advancedOf
 stepped-kept d input reliable oldest c costs parents h = (
   record {
-    write = omega arith;
-    filled = more-most (d .filled);
-    earlier = walked-earlier _ (d .write) (d .filled) _ (d .previous) oldest (h .earlier);
-    table = stored-table parents (d .write) _ (h .write) (h .parents-size) (h .table) (arrived-parents c costs input reliable);
+    place = record {
+      write = omega arith;
+      filled = more-most (d .filled);
+      earlier = walked-earlier _ (d .write) (d .filled) _ (d .previous) oldest (h .place .earlier);
+    };
+    table = stored-table parents (d .write) _ (h .place .write) (h .parents-size) (h .table) (arrived-parents c costs input reliable);
     costs-size = length-upto _ 64;
-    parents-size = stored-size parents (d .write) _ (h .write) (h .parents-size);
+    parents-size = stored-size parents (d .write) _ (h .place .write) (h .parents-size);
   },
   arrived-parents c costs input reliable,
 )
@@ -120,7 +122,7 @@ pub step-meets : (d : DetectorPlace) (input : Complex32) (reliable : Bool) (olde
     (best : ℕ) (after : List Float) (row stored : List ℕ) (predictions : Planes) (t : Taps) (seen : Seen) (walked : Walked) (r : Detected)
     → _≡_ {A = Advance} (record { best = best; costs = after; parents = row; predictions = predictions }) (advancedOf c costs input reliable)
     → t ≡ tapsOf c (getD row best 0)
-    → seen ≡ seenOf input reliable t (getD row best 0)
+    → seen ≡ observedOf input reliable t (getD row best 0)
     → stored ≡ storedOf parents (d .write) row
     → walked ≡ walkedOf stored (d .write) (d .filled) best (d .previous) oldest
     → r ≡ reportedOf d walked seen input (pointAt predictions best) reliable

@@ -23,7 +23,7 @@ use Rattle.sequence.specs.declared.walk.Answer.{Answer}
 use Rattle.sequence.specs.declared.walk.Answer.the-variants.{Silent, Dibit}
 use Rattle.sequence.specs.Observed.{zero32, slotOf}
 use Rattle.sequence.specs.Walk.{decidedOf}
-use Rattle.sequence.specs.Sequence.{freshRecords, oneMore, steppedWith, steppedOf}
+use Rattle.sequence.specs.Sequence.{freshRecords, oneMoreOf, steppedWith, steppedOf}
 use Rattle.sequence.specs.Ranges.{Sound}
 use Rattle.sequence.specs.Steps.{below-is}
 use Rattle.sequence.specs.Skeleton.{Skeleton, freshSkeleton, Step, oldestOf, answerOf, afterOf, ranOf}
@@ -58,9 +58,7 @@ pub fresh-sound : Sound freshSkeleton
 unfolding freshSkeleton freshRecords
 fresh-sound = record {
   ranged = record {
-    write = omega arith;
-    filled = omega arith;
-    earlier = tt;
+    place = record { write = omega arith; filled = omega arith; earlier = tt };
     table = record { below = λ i h. rw (getD-replicate {A = ℕ} 2048 i 0 0 h) (omega arith) };
     costs-size = length-replicate 64 zero32;
     parents-size = length-replicate {A = ℕ} 2048 0;
@@ -101,10 +99,10 @@ module _ (n : ℕ) (d : Skeleton) (i : Step) (h : Counted n d) where
 
   pub counted-step : Counted (suc n) (afterOf d i)
   counted-step = record {
-    fewer = λ l. let e : n + 1 ≡ suc n = omega arith in filled-next d i ∙ ap oneMore (h .fewer (omega arith)) ∙ sym (below-is n 32 (n + 1) 32 (omega arith)) ∙ e;
+    fewer = λ l. let e : n + 1 ≡ suc n = omega arith in filled-next d i ∙ ap oneMoreOf (h .fewer (omega arith)) ∙ sym (below-is n 32 (n + 1) 32 (omega arith)) ∙ e;
     full = λ l. filled-next d i ∙ ⊎-elim
-        (λ b. let e : n ≡ 31 = omega arith in ap oneMore (h .fewer b ∙ e))
-        (λ g. ap oneMore (h .full g))
+        (λ b. let e : n ≡ 31 = omega arith in ap oneMoreOf (h .fewer b ∙ e))
+        (λ g. ap oneMoreOf (h .full g))
         (lt-or-ge n 32);
     unknown = λ l. previous-short d i (held (omega arith)) ∙ h .unknown (omega arith);
     known = λ l. subst Known (sym (previous-long d i (full-held (omega arith)))) tt;

@@ -1,7 +1,7 @@
 // One step of the detector with the channels that it is given.
 ghost use mathlib.Core.Path.{_≡_};
 ghost use Prim.Native.Nat.{_<_};
-ghost use Rattle.sequence.specs.Sequence.{freshPlace, freshTap, freshReal, freshRecords, phaseBetween, powerTold, oneMore, reportedOf, steppedOf};
+ghost use Rattle.sequence.specs.Sequence.{freshPlace, freshTap, freshReal, freshRecords, phaseBetweenOf, powerToldOf, oneMoreOf, reportedOf, steppedOf};
 ghost use Rattle.sequence.specs.Ranges.{Ranged, Roomy, Kept};
 ghost use Rattle.sequence.specs.Lends.{leaves};
 use super::CHANNELS;
@@ -95,7 +95,7 @@ pub fn fresh_records() -> Records
 
 // The angle from the prediction to the input, and 0 where the input is not reliable.
 fn phase_between(input: Complex32, prediction: Complex32, reliable: bool) -> f32
-    ensures { λ r. ⌜ r ≡ phaseBetween input prediction reliable ⌝ }
+    ensures { λ r. ⌜ r ≡ phaseBetweenOf input prediction reliable ⌝ }
 {
     if reliable {
         let turn = multiplied_conjugate(input, prediction);
@@ -107,14 +107,14 @@ fn phase_between(input: Complex32, prediction: Complex32, reliable: bool) -> f32
 
 // The carrier is told a power of 1 where the input is not reliable.
 fn power_told(power: f32, reliable: bool) -> f32
-    ensures { λ r. ⌜ r ≡ powerTold power reliable ⌝ }
+    ensures { λ r. ⌜ r ≡ powerToldOf power reliable ⌝ }
 {
     if reliable { power } else { 1.0 }
 }
 
 // Up to 32 steps are held.
 fn one_more(filled: usize) -> usize
-    ensures { λ r. ⌜ r ≡ oneMore filled ⌝ }
+    ensures { λ r. ⌜ r ≡ oneMoreOf filled ⌝ }
 {
     if filled < 32 { filled + 1 } else { 32 }
 }

@@ -1,4 +1,4 @@
--- `carrier::error_after` meets its contract. Assumes nothing.
+-- `error_after` meets its contract: the widened root of the power, smoothed. Assumes nothing.
 use Rattle.carrier.specs.Carrier.{errorAfterOf}
 use borrow.Author.Needs.{needs}
 use Rattle.carrier.proofs.error_after.Statement.{statement}

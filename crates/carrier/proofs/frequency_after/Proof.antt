@@ -1,4 +1,4 @@
--- `carrier::frequency_after` meets its contract. Assumes nothing.
+-- `frequency_after` meets its contract: moved, and clamped. Assumes nothing.
 use Rattle.carrier.specs.Carrier.{frequencyAfterOf}
 use borrow.Author.Needs.{needs}
 use Rattle.carrier.proofs.frequency_after.Statement.{statement}

@@ -1,4 +1,4 @@
--- `carrier::loop_after` meets its contract. Assumes nothing.
+-- `loop_after` meets its contract: the frequency first, then the phase by it, and lock by the new error. Assumes nothing.
 use Rattle.carrier.specs.Laws.{loop-is}
 use borrow.Author.Needs.{needs}
 use Rattle.carrier.proofs.loop_after.Statement.{statement}
@@ -23,7 +23,10 @@ is-locked-requires : tie.Need-is-locked-requires
 is-locked-requires c κs = search needs
 
 returns : tie.Need-returns
-returns c = loop-is _ _ _ _ _ _ _ _ _ (c .before .before .before .before .before .phase-error .ensures) (c .before .before .before .before .frequency-after .ensures) (c .before .before .before .error-after .ensures) (c .before .before .phase-after .ensures) (c .is-locked .ensures)
+returns c =
+    let phase-error-is = c .before .before .before .before .before .phase-error .ensures in
+    let frequency-after-is = c .before .before .before .before .frequency-after .ensures in
+    loop-is _ _ _ _ _ _ _ _ _ phase-error-is frequency-after-is (c .before .before .before .error-after .ensures) (c .before .before .phase-after .ensures) (c .is-locked .ensures)
 
 pub loop-after-spec : {M : Type 1} → statement M
 loop-after-spec =

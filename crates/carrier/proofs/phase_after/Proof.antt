@@ -1,4 +1,4 @@
--- `carrier::phase_after` meets its contract. Assumes nothing.
+-- `phase_after` meets its contract: moved, and unwound. Assumes nothing.
 use Rattle.carrier.specs.Carrier.{phaseAfterOf}
 use borrow.Author.Needs.{needs}
 use Rattle.carrier.proofs.phase_after.Statement.{statement}

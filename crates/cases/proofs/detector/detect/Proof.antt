@@ -26,13 +26,13 @@ point-requires : tie.Need-point-requires Inv-loop μ-loop
 point-requires c κs = search needs
 
 oldest-requires : tie.Need-oldest-requires Inv-loop μ-loop
-oldest-requires c κs = c .before .before .before .loop .inv .skeleton .write
+oldest-requires c κs = c .before .before .before .loop .inv .skeleton .place .write
 
 step-requires : tie.Need-step-requires Inv-loop μ-loop
 step-requires c κs = c .before .before .before .before .before .before .before .before .loop .inv
 
 stored-requires : tie.Need-stored-requires Inv-loop μ-loop
-stored-requires c κs = c .before .before .before .before .before .before .before .before .before .loop .inv .skeleton .write
+stored-requires c κs = c .before .before .before .before .before .before .before .before .before .loop .inv .skeleton .place .write
 
 tallied-requires : tie.Need-tallied-requires Inv-loop μ-loop
 tallied-requires c κs = search needs

@@ -49,17 +49,17 @@ observed-requires c κs =
 store-requires : tie.Need-store-requires
 store-requires c κs =
     let given = c .before .before .before .before .before .before .before .before .before .before .before .before .pre .0 in
-    (given .write, given .parents-size)
+    (given .place .write, given .parents-size)
 
 walk-requires : tie.Need-walk-requires
 walk-requires c κs =
     let given = c .before .before .before .before .before .before .before .before .before .before .before .before .before .before .pre .0 in
     let advanced = c .before .before .before .before .before .before .before .before .before .advance .ensures in
-    let table = asked-table _ _ _ _ (c .before .store .ensures) (given .write) (given .parents-size) (given .table) (advanced .1 .1) in
-    (given .write, advanced .1 .0, table, given .earlier)
+    let table = asked-table _ _ _ _ (c .before .store .ensures) (given .place .write) (given .parents-size) (given .table) (advanced .1 .1) in
+    (given .place .write, advanced .1 .0, table, given .place .earlier)
 
 reported-requires : tie.Need-reported-requires
-reported-requires c κs = c .before .before .before .before .before .before .before .before .before .before .before .before .before .before .before .pre .0 .write
+reported-requires c κs = c .before .before .before .before .before .before .before .before .before .before .before .before .before .before .before .pre .0 .place .write
 
 returns : tie.Need-returns
 returns c =
