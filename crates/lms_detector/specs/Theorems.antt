@@ -2,7 +2,7 @@
 -- Assumes nothing.
 use mathlib.Core.Path.{_≡_, refl}
 use Prim.Native.Nat.{ℕ, _%_, _≤_, _<_}
-use native.Mathlib.Omega.{arith}
+use mathlib.Core.Bool.{Bool}
 use mathlib.Core.List.{List, [], _∷_, _++_}
 use lib.ListN.{length, getD, replicate, length-replicate}
 use lib.Ieee.{nan}
@@ -10,20 +10,22 @@ use Rattle.laws.specs.Places.{length-upto}
 use Rattle.laws.specs.FloatSums.{In}
 use Rattle.trellis.specs.Metric.{c0}
 use Rattle.trellis.specs.Costs.{c48}
-use Rattle.tracker.specs.Tracker.{Planes}
+use Rattle.complex.specs.declared.Complex32.{Complex32}
+use Rattle.tracker.specs.Tracker.{Planes, laidOut, followedOf}
 use Rattle.sequence.specs.declared.walk.Answer.the-variants.{Silent, Dibit}
 use Rattle.sequence.specs.Observed.{zero32}
 use Rattle.sequence.specs.Walk.{decidedOf}
 use Rattle.sequence.specs.Sequence.{freshReal}
 use Rattle.sequence.specs.Skeleton.{freshSkeleton, oldestOf, putOf, madeBy, madeAt, historyOf, traced}
-use Rattle.sequence.specs.Ranges.{Sound}
+use Rattle.sequence.specs.Ranges as Sequence
 use Rattle.sequence.specs.History.{bestState}
-use Rattle.sequence.specs.Theorems.{fresh-sound, Told}
+use Rattle.sequence.specs.Theorems as Theorems
+use Rattle.sequence.specs.Theorems.{Told}
 use Rattle.sequence.specs.Tracked.{Input, Detector, stepOf, answerOf, afterOf, ranOf, answersOf, stepsOf}
 use Rattle.sequence.specs.TrackedLaws as Tracked
 use Rattle.sequence.specs.TrackedLaws.{Unreliable}
 use Rattle.lms_detector.specs.Detector.{Run, detectedWith, detectedOf, lmsTracker, freshChannels, freshDetector}
-use Rattle.lms_detector.specs.Ranges.{Ranged}
+use Rattle.lms_detector.specs.Ranges.{Ranged, Sound}
 
 -- ---- the code's step is the step of this detector
 abbrev pub runOf : Detector Planes → Input → Run
@@ -47,17 +49,36 @@ pub answer-is : (d : Detector Planes) (i : Input) → answerOf lmsTracker d i �
 unfolding detectedOf detectedWith
 answer-is d i = refl
 
--- ---- a fresh detector is in range
-pub fresh-ranged : Ranged (freshSkeleton .place) (freshChannels .real) (freshChannels .imaginary) (freshSkeleton .costs) (freshSkeleton .parents)
+-- ---- ranges
+module _ (c : Planes) (row : List ℕ) (predictions : Planes) (input : Complex32) (reliable : Bool) where
+  followed-real : length (followedOf c row predictions input reliable .real) ≡ 256
+  unfolding followedOf laidOut
+  followed-real = length-upto _ 256
+
+  followed-imaginary : length (followedOf c row predictions input reliable .imaginary) ≡ 256
+  unfolding followedOf laidOut
+  followed-imaginary = length-upto _ 256
+
+-- from any state in range, every list of inputs leaves one
+pub ran-sound : (d : Detector Planes) (is : List Input) → Sound d → Sound (ranOf lmsTracker d is)
+ran-sound d [] h = h
+ran-sound d (i ∷ is) h = ran-sound (afterOf lmsTracker d i) is (record {
+  skeleton = Tracked.ran-sound lmsTracker d (i ∷ []) (h .skeleton);
+  real-size = followed-real (d .memory) _ _ (i .value) (i .reliable);
+  imaginary-size = followed-imaginary (d .memory) _ _ (i .value) (i .reliable);
+})
+
+pub fresh-sound : Sound freshDetector
 unfolding freshChannels freshReal
-fresh-ranged = record { skeleton = fresh-sound .ranged; real-size = length-upto _ 256; imaginary-size = length-replicate 256 zero32 }
+fresh-sound = record { skeleton = Theorems.fresh-sound; real-size = length-upto _ 256; imaginary-size = length-replicate 256 zero32 }
+
+pub fresh-ranged : Ranged (freshSkeleton .place) (freshChannels .real) (freshChannels .imaginary) (freshSkeleton .costs) (freshSkeleton .parents)
+fresh-ranged = record { skeleton = Theorems.fresh-sound .ranged; real-size = fresh-sound .real-size; imaginary-size = fresh-sound .imaginary-size }
 
 -- ---- what holds for every list of inputs
-pub ran-sound : (d : Detector Planes) (is : List Input) → Sound (d .skeleton) → Sound (ranOf lmsTracker d is .skeleton)
-ran-sound = Tracked.ran-sound lmsTracker
 
--- the 31 newest steps' parents and the record of 31 steps before
-pub answered : (d : Detector Planes) (is : List Input) (i : Input) → Sound (d .skeleton) → 31 ≤ length is
+-- once 31 steps are made the next is decided by the 31 newest steps' parents and by the record of 31 steps before
+pub answered : (d : Detector Planes) (is : List Input) (i : Input) → Sequence.Sound (d .skeleton) → 31 ≤ length is
     → answerOf lmsTracker (ranOf lmsTracker d is) i
     ≡ decidedOf
     (traced

@@ -60,9 +60,9 @@ not-before : precedes none none ≡ false
 unfolding ofBits lt eq signOf precedes
 not-before = refl
 
-no-metric : (input guess : Complex32) (reliable : Bool) → reliable ≡ false → metricOf input guess reliable ≡ none
+no-metric : (input prediction : Complex32) (reliable : Bool) → reliable ≡ false → metricOf input prediction reliable ≡ none
 unfolding metricOf
-no-metric input guess reliable e = rw e
+no-metric input prediction reliable e = rw e
 
 better-first : (y : Branch) → y .cost ≡ none → better noBranch y ≡ y
 unfolding better
