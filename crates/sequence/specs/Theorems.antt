@@ -33,13 +33,13 @@ use Rattle.sequence.specs.History.{filled-next, endOf, answer-short, ans
 abbrev Costs : Skeleton → Type 0
 Costs d = Good (λ s. getD (d .costs) s nan)
 
-pub costs-kept : (d : DetectorPlace) (input : Complex32) (reliable : Bool) (oldest : Soft) (c : Planes) (costs : List Float) (parents : List ℕ)
+pub costs-stepped : (d : DetectorPlace) (input : Complex32) (reliable : Bool) (oldest : Soft) (c : Planes) (costs : List Float) (parents : List ℕ)
     → Good (λ s. getD costs s nan) → Good (λ s. getD (steppedOf d input reliable oldest c costs parents .costs) s nan)
 unfolding steppedOf steppedWith
-costs-kept d input reliable oldest c costs parents g = good-step c costs input reliable g
+costs-stepped d input reliable oldest c costs parents g = good-step c costs input reliable g
 
 costs-step : (d : Skeleton) (i : Step) → Costs d → Costs (afterOf d i)
-costs-step d i g = costs-kept (d .place) (i .value) (i .reliable) (oldestOf d) (i .channels) (d .costs) (d .parents) g
+costs-step d i g = costs-stepped (d .place) (i .value) (i .reliable) (oldestOf d) (i .channels) (d .costs) (d .parents) g
 
 costs-ran : (d : Skeleton) (is : List Step) → Costs d → Costs (ranOf d is)
 costs-ran d [] g = g
