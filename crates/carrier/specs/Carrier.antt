@@ -2,6 +2,7 @@
 use Prim.Native.Nat.{ℕ, _+_, _%_}
 use mathlib.Core.Bool.{Bool, false, _&&_}
 use mathlib.Core.List.{List}
+use lib.Dec.{leb}
 use lib.IntN.{pos}
 use lib.Ieee.{Float, binary32, binary64, ofBits, ofInt, add, sub, mul, div, neg, lt}
 use Rattle.numbers.specs.Numbers.{toEven, wholeOf, clampOf}
@@ -13,6 +14,8 @@ use Rattle.complex.specs.Complex.{narrowedOf}
 use Rattle.tracker.specs.Tracker.{Planes}
 use Rattle.sequence.specs.declared.soft.Soft.{Soft}
 use Rattle.sequence.specs.Sequence as Sequence
+use Rattle.sequence.specs.Admitted as Admitted
+use Rattle.lms_detector.specs.Detector as Detector
 use Rattle.carrier.specs.declared.Loop.{Loop}
 use Rattle.carrier.specs.declared.CarrierPlace.{CarrierPlace}
 use Rattle.carrier.specs.declared.Carried.{Carried}
@@ -24,62 +27,95 @@ freshLoop = record { phase = ofBits binary64 0; frequency = ofBits binary64 0; a
 abbrev pub freshPlace : CarrierPlace
 freshPlace = record { turn = freshLoop; detector = Sequence.freshPlace }
 
+-- alternation 0..7, and the detector's place
+unfoldable pub admittedOf : CarrierPlace → Bool
+admittedOf c = leb (c .turn .alternation) 7 && Admitted.admittedOf (c .detector)
+
 -- ---- the correction
 
 abbrev pub pi : Float
-pi = ofBits binary64 0x400921fb54442d18
+pi = ofBits binary64 0x400921fb54442d18  -- 3.141592653589793
+
+abbrev four64 : Float
+four64 = ofBits binary64 0x4010000000000000  -- 4
 
 -- `phase + alternation as f64 * PI / 4.0`
 unfoldable pub rotationOf : Loop → Float
-rotationOf l = add binary64 (l .phase) (div binary64 (mul binary64 (ofInt binary64 (pos (l .alternation))) pi) (ofBits binary64 0x4010000000000000))
+rotationOf l = add binary64 (l .phase) (div binary64 (mul binary64 (ofInt binary64 (pos (l .alternation))) pi) four64)
 
 -- the sample turned back by an angle, each part narrowed once
-unfoldable pub turnedBack : SineCosine → Complex32 → Complex32
-turnedBack t z = narrowedOf (record {
+unfoldable pub turnedBackOf : SineCosine → Complex32 → Complex32
+turnedBackOf t z = narrowedOf (record {
   real = add binary64 (mul binary64 (z .real) (t .cosine)) (mul binary64 (z .imaginary) (t .sine));
   imaginary = sub binary64 (mul binary64 (z .imaginary) (t .cosine)) (mul binary64 (z .real) (t .sine));
 })
 
 unfoldable pub correctedOf : Loop → Complex32 → Complex32
-correctedOf l z = turnedBack (pairOf (rotationOf l)) z
+correctedOf l z = turnedBackOf (pairOf (rotationOf l)) z
 
 -- ---- the loop's turn
 
--- 2 PI
+-- 2 pi
 abbrev pub fullTurn : Float
-fullTurn = ofBits binary64 0x401921fb54442d18
+fullTurn = ofBits binary64 0x401921fb54442d18  -- 6.283185307179586
 
 -- less the nearest number of full turns, a tie to the even one
 unfoldable pub unwoundOf : Float → Float
 unwoundOf phase = sub binary64 phase (mul binary64 (wholeOf toEven binary64 (div binary64 phase fullTurn)) fullTurn)
 
+-- the phase error, in radians, that a step counts at most: a wrong decision moves the loop no further
+abbrev pub mostError : Float
+mostError = ofBits binary32 0x3f000000  -- 0.5
+
 -- kept in -0.5..0.5, a NaN kept
 unfoldable pub phaseErrorOf : Float → Float
-phaseErrorOf e = clampOf e (neg (ofBits binary32 0x3f000000)) (ofBits binary32 0x3f000000)
+phaseErrorOf e = clampOf e (neg mostError) mostError
+
+-- how much of the phase error the frequency takes
+abbrev pub frequencyStep : Float
+frequencyStep = ofBits binary64 0x3f689374bc6a7efa  -- 0.003
+
+-- radians a symbol, about 497 Hz
+abbrev pub mostFrequency : Float
+mostFrequency = ofBits binary64 0x3fe4cccccccccccd  -- 0.65
 
 -- moved by 0.003 of the phase error and kept in -0.65..0.65
-unfoldable pub frequencyOf : Float → Float → Float
-frequencyOf frequency e = clampOf (add binary64 frequency (mul binary64 (ofBits binary64 0x3f689374bc6a7efa) e)) (neg (ofBits binary64 0x3fe4cccccccccccd)) (ofBits binary64 0x3fe4cccccccccccd)
+unfoldable pub frequencyAfterOf : Float → Float → Float
+frequencyAfterOf frequency e = clampOf (add binary64 frequency (mul binary64 frequencyStep e)) (neg mostFrequency) mostFrequency
+
+-- how much of the phase error the phase takes
+abbrev pub phaseStep : Float
+phaseStep = ofBits binary64 0x3fc999999999999a  -- 0.2
 
 -- moved by the frequency and 0.2 of the phase error, and unwound
-unfoldable pub phaseOf : Float → Float → Float → Float
-phaseOf phase frequency e = unwoundOf (add binary64 phase (add binary64 frequency (mul binary64 (ofBits binary64 0x3fc999999999999a) e)))
+unfoldable pub phaseAfterOf : Float → Float → Float → Float
+phaseAfterOf phase frequency e = unwoundOf (add binary64 phase (add binary64 frequency (mul binary64 phaseStep e)))
+
+-- the error is smoothed over some 50 symbols: what it keeps, and what it takes of a new one
+abbrev pub errorKept : Float
+errorKept = ofBits binary64 0x3fef5c28f5c28f5c  -- 0.98
+
+abbrev pub errorTaken : Float
+errorTaken = ofBits binary64 0x3f947ae147ae147b  -- 0.02
 
 -- 0.98 of the error and 0.02 of the size of what the detector missed by
-unfoldable pub errorOf : Float → Float → Float
-errorOf error power = add binary64 (mul binary64 (ofBits binary64 0x3fef5c28f5c28f5c) error) (mul binary64 (ofBits binary64 0x3f947ae147ae147b) (sqrtOf binary32 power))
+unfoldable pub errorAfterOf : Float → Float → Float
+errorAfterOf error power = add binary64 (mul binary64 errorKept error) (mul binary64 errorTaken (sqrtOf binary32 power))
 
--- below 0.4
-abbrev pub lockedOf : Bool → Float → Bool
-lockedOf reliable error = reliable && lt error (ofBits binary64 0x3fd999999999999a)
+-- the smoothed error below which the loop is locked
+abbrev pub lockedBelow : Float
+lockedBelow = ofBits binary64 0x3fd999999999999a  -- 0.4
+
+abbrev pub isLocked : Bool → Float → Bool
+isLocked reliable error = reliable && lt error lockedBelow
 
 -- the loop after a step with this phase error and this power of the error
-unfoldable pub turnedOf : Loop → Float → Float → Bool → Loop
-turnedOf l phase power reliable =
+unfoldable pub loopAfterOf : Loop → Float → Float → Bool → Loop
+loopAfterOf l phase power reliable =
     let e = phaseErrorOf phase in
-    let frequency = frequencyOf (l .frequency) e in
-    let error = errorOf (l .error) power in
-    record { phase = phaseOf (l .phase) frequency e; frequency = frequency; alternation = (l .alternation + 1) % 8; locked = lockedOf reliable error; error = error }
+    let frequency = frequencyAfterOf (l .frequency) e in
+    let error = errorAfterOf (l .error) power in
+    record { phase = phaseAfterOf (l .phase) frequency e; frequency = frequency; alternation = (l .alternation + 1) % 8; locked = isLocked reliable error; error = error }
 
 -- ---- a symbol
 
@@ -91,10 +127,10 @@ pub record Run : Type 0 where
   pub parents : List ℕ
 
 -- what the detector's step makes of the loop
-abbrev pub carriedWith : CarrierPlace → Bool → Sequence.Run → Run
+abbrev pub carriedWith : CarrierPlace → Bool → Detector.Run → Run
 carriedWith c reliable d = record {
   carried = record {
-    place = record { turn = turnedOf (c .turn) (d .detected .phase) (d .detected .power) reliable; detector = d .detected .place };
+    place = record { turn = loopAfterOf (c .turn) (d .detected .phase) (d .detected .power) reliable; detector = d .detected .place };
     answer = d .detected .answer;
     soft = d .detected .soft;
     equalized = d .detected .equalized;
@@ -107,4 +143,4 @@ carriedWith c reliable d = record {
 -- the symbol is corrected, and the detector takes its step
 unfoldable pub carriedOf : CarrierPlace → Complex32 → Bool → Soft → Planes → List Float → List ℕ → Run
 carriedOf c z reliable oldest channels costs parents =
-    carriedWith c reliable (Sequence.detectedOf (c .detector) (correctedOf (c .turn) z) reliable oldest channels costs parents)
+    carriedWith c reliable (Detector.detectedOf (c .detector) (correctedOf (c .turn) z) reliable oldest channels costs parents)

@@ -9,26 +9,23 @@ use lib.Ieee.{Float}
 use Rattle.complex.specs.declared.Complex32.{Complex32}
 use Rattle.tracker.specs.Tracker.{Planes}
 use Rattle.sequence.specs.declared.soft.Soft.{Soft}
-use Rattle.sequence.specs.Sequence as Sequence
-use Rattle.sequence.specs.Steps.{detected-ranged}
+use Rattle.lms_detector.specs.Detector as Detector
+use Rattle.lms_detector.specs.Laws.{detected-ranged}
 use Rattle.carrier.specs.declared.Loop.{Loop}
 use Rattle.carrier.specs.declared.CarrierPlace.{CarrierPlace}
-use Rattle.carrier.specs.Carrier.{Run, correctedOf, phaseErrorOf, frequencyOf, phaseOf, errorOf, lockedOf, turnedOf, carriedWith, carriedOf}
-use Rattle.carrier.specs.Ranges.{Ranged}
-
-abbrev pub RunRanged : Run → Type 0
-RunRanged r = Ranged (r .carried .place) (r .channels .real) (r .channels .imaginary) (r .costs) (r .parents)
+use Rattle.carrier.specs.Carrier.{Run, correctedOf, phaseErrorOf, frequencyAfterOf, phaseAfterOf, errorAfterOf, isLocked, loopAfterOf, carriedWith, carriedOf}
+use Rattle.carrier.specs.Ranges.{Ranged, Kept}
 
 -- the loop's turn from its parts
-pub turned-is : (l : Loop) (phase power : Float) (reliable : Bool) (e frequency error after : Float) (locked : Bool)
-    → e ≡ phaseErrorOf phase → frequency ≡ frequencyOf (l .frequency) e → error ≡ errorOf (l .error) power → after ≡ phaseOf (l .phase) frequency e → locked ≡ lockedOf reliable error
-    → _≡_ {A = Loop} (record { phase = after; frequency = frequency; alternation = (l .alternation + 1) % 8; locked = locked; error = error }) (turnedOf l phase power reliable)
-unfolding turnedOf
-turned-is l phase power reliable e frequency error after locked is-e is-frequency is-error is-after is-locked = rw (is-locked, is-after, is-error, is-frequency, is-e)
+pub loop-is : (l : Loop) (phase power : Float) (reliable : Bool) (e frequency error after : Float) (locked : Bool)
+    → e ≡ phaseErrorOf phase → frequency ≡ frequencyAfterOf (l .frequency) e → error ≡ errorAfterOf (l .error) power → after ≡ phaseAfterOf (l .phase) frequency e → locked ≡ isLocked reliable error
+    → _≡_ {A = Loop} (record { phase = after; frequency = frequency; alternation = (l .alternation + 1) % 8; locked = locked; error = error }) (loopAfterOf l phase power reliable)
+unfolding loopAfterOf
+loop-is l phase power reliable e frequency error after locked is-e is-frequency is-error is-after is-locked = rw (is-locked, is-after, is-error, is-frequency, is-e)
 
-pub step-is : (c : CarrierPlace) (z input : Complex32) (reliable : Bool) (oldest : Soft) (channels : Planes) (costs : List Float) (parents : List ℕ) (d : Sequence.Run) (turn : Loop)
-    → input ≡ correctedOf (c .turn) z → d ≡ Sequence.detectedOf (c .detector) input reliable oldest channels costs parents
-    → turn ≡ turnedOf (c .turn) (d .detected .phase) (d .detected .power) reliable
+pub step-is : (c : CarrierPlace) (z input : Complex32) (reliable : Bool) (oldest : Soft) (channels : Planes) (costs : List Float) (parents : List ℕ) (d : Detector.Run) (turn : Loop)
+    → input ≡ correctedOf (c .turn) z → d ≡ Detector.detectedOf (c .detector) input reliable oldest channels costs parents
+    → turn ≡ loopAfterOf (c .turn) (d .detected .phase) (d .detected .power) reliable
     → _≡_ {A = Run}
     (record {
       carried = record { place = record { turn = turn; detector = d .detected .place }; answer = d .detected .answer; soft = d .detected .soft; equalized = d .detected .equalized };
@@ -39,18 +36,18 @@ pub step-is : (c : CarrierPlace) (z input : Complex32) (reliable : Bool) (oldest
     (carriedOf c z reliable oldest channels costs parents)
 unfolding carriedOf
 step-is c z input reliable oldest channels costs parents d turn i e t =
-    rw t (ap (carriedWith c reliable) (e ∙ ap (λ (x : Complex32). Sequence.detectedOf (c .detector) x reliable oldest channels costs parents) i))
+    rw t (ap (carriedWith c reliable) (e ∙ ap (λ (x : Complex32). Detector.detectedOf (c .detector) x reliable oldest channels costs parents) i))
 
 -- THE ALTERNATION stays below 8
-pub turned-below : (l r : Loop) (phase power : Float) (reliable : Bool) → r ≡ turnedOf l phase power reliable → r .alternation ≤ 7
-unfolding turnedOf
-turned-below l r phase power reliable e = let k = mod-lt (l .alternation + 1) {m = 8} (omega arith) in rw e (omega arith)
+pub alternation-below : (l r : Loop) (phase power : Float) (reliable : Bool) → r ≡ loopAfterOf l phase power reliable → r .alternation ≤ 7
+unfolding loopAfterOf
+alternation-below l r phase power reliable e = let k = mod-lt (l .alternation + 1) {m = 8} (omega arith) in rw e (omega arith)
 
 -- ADMITTED IN, ADMITTED OUT
 pub carried-ranged : (c : CarrierPlace) (z : Complex32) (reliable : Bool) (oldest : Soft) (channels : Planes) (costs : List Float) (parents : List ℕ)
-    → Ranged c (channels .real) (channels .imaginary) costs parents → RunRanged (carriedOf c z reliable oldest channels costs parents)
+    → Ranged c (channels .real) (channels .imaginary) costs parents → Kept (carriedOf c z reliable oldest channels costs parents)
 unfolding carriedOf
 carried-ranged c z reliable oldest channels costs parents h = record {
-  alternation = turned-below (c .turn) _ _ _ reliable refl;
+  alternation = alternation-below (c .turn) _ _ _ reliable refl;
   detector = detected-ranged (c .detector) (correctedOf (c .turn) z) reliable oldest channels costs parents (h .detector);
 }

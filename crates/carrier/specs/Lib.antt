@@ -1,3 +1,5 @@
 pub mod Carrier
 pub mod Ranges
+pub mod Lends
 pub mod Laws
+pub mod AdmittedLaws

@@ -3,8 +3,18 @@ use Prim.Native.Nat.{ℕ, _≤_}
 use mathlib.Core.List.{List}
 use lib.Ieee.{Float}
 use Rattle.sequence.specs.Ranges as Sequence
+use Rattle.lms_detector.specs.Ranges as Detector
 use Rattle.carrier.specs.declared.CarrierPlace.{CarrierPlace}
+use Rattle.carrier.specs.Carrier.{Run}
+
+pub record PlaceRanged (c : CarrierPlace) : Type 0 where
+  pub alternation : c .turn .alternation ≤ 7
+  pub detector : Sequence.PlaceRanged (c .detector)
 
 pub record Ranged (c : CarrierPlace) (real imaginary costs : List Float) (parents : List ℕ) : Type 0 where
   pub alternation : c .turn .alternation ≤ 7
-  pub detector : Sequence.Ranged (c .detector) real imaginary costs parents
+  pub detector : Detector.Ranged (c .detector) real imaginary costs parents
+
+-- what a step leaves is in range
+abbrev pub Kept : Run → Type 0
+Kept r = Ranged (r .carried .place) (r .channels .real) (r .channels .imaginary) (r .costs) (r .parents)

@@ -2,8 +2,10 @@
 // constellation's alternation, and follows the phase of what the detector missed by.
 ghost use mathlib.Core.Path.{_≡_};
 ghost use Prim.Native.Nat.{_≤_};
-ghost use Rattle.carrier.specs.Carrier.{freshPlace, rotationOf, turnedBack, correctedOf, unwoundOf, phaseErrorOf, frequencyOf, phaseOf, errorOf, lockedOf, turnedOf, Run, carriedOf};
-ghost use Rattle.carrier.specs.Ranges.{Ranged};
+ghost use Rattle.carrier.specs.Carrier.{freshPlace, admittedOf, rotationOf, turnedBackOf, correctedOf, unwoundOf, phaseErrorOf};
+ghost use Rattle.carrier.specs.Carrier.{frequencyAfterOf, phaseAfterOf, errorAfterOf, isLocked, loopAfterOf, carriedOf};
+ghost use Rattle.carrier.specs.Ranges.{Ranged, Kept};
+ghost use Rattle.carrier.specs.Lends.{leaves};
 use complex::Complex32;
 use complex::Complex64;
 use complex::Observation;
@@ -14,6 +16,9 @@ use numbers::whole::round_ties_even;
 use roots::sqrt32;
 use routines::circle::SineCosine;
 use routines::circle::sine_cosine;
+use sequence::CHANNELS;
+use sequence::PARENTS;
+use sequence::STATES;
 use sequence::soft::Soft;
 use sequence::step::DetectorPlace;
 use sequence::walk::Answer;
@@ -59,6 +64,15 @@ pub fn fresh() -> CarrierPlace
     }
 }
 
+// The alternation is at most 7, and the detector's place may be run.
+pub fn is_admitted(c: CarrierPlace) -> bool
+    ensures { λ b. ⌜ b ≡ admittedOf c ⌝ }
+{
+    let turn = c.turn;
+    let detector = c.detector;
+    (turn.alternation <= 7) & sequence::admitted::is_admitted(detector)
+}
+
 // The constellation turns by pi / 4 with each symbol.
 fn rotation(l: Loop) -> f64
     ensures { λ r. ⌜ r ≡ rotationOf l ⌝ }
@@ -68,7 +82,7 @@ fn rotation(l: Loop) -> f64
 
 // The sample turned back by an angle, in f64, each part narrowed once.
 fn turned_back(t: SineCosine, sample: Complex32) -> Complex32
-    ensures { λ r. ⌜ r ≡ turnedBack t sample ⌝ }
+    ensures { λ r. ⌜ r ≡ turnedBackOf t sample ⌝ }
 {
     let real = widen(sample.real);
     let imaginary = widen(sample.imaginary);
@@ -98,33 +112,33 @@ fn phase_error(e: f32) -> f64
 }
 
 fn frequency_after(frequency: f64, e: f64) -> f64
-    ensures { λ r. ⌜ r ≡ frequencyOf frequency e ⌝ }
+    ensures { λ r. ⌜ r ≡ frequencyAfterOf frequency e ⌝ }
 {
     clamp(frequency + 0.003 * e, -0.65, 0.65)
 }
 
 fn phase_after(phase: f64, frequency: f64, e: f64) -> f64
-    ensures { λ r. ⌜ r ≡ phaseOf phase frequency e ⌝ }
+    ensures { λ r. ⌜ r ≡ phaseAfterOf phase frequency e ⌝ }
 {
     unwound(phase + (frequency + 0.2 * e))
 }
 
 fn error_after(error: f64, power: f32) -> f64
-    ensures { λ r. ⌜ r ≡ errorOf error power ⌝ }
+    ensures { λ r. ⌜ r ≡ errorAfterOf error power ⌝ }
 {
     0.98 * error + 0.02 * widen(sqrt32(power))
 }
 
 fn is_locked(reliable: bool, error: f64) -> bool
-    ensures { λ r. ⌜ r ≡ lockedOf reliable error ⌝ }
+    ensures { λ r. ⌜ r ≡ isLocked reliable error ⌝ }
 {
     reliable & (error < 0.4)
 }
 
 // The loop after a step with this phase error and this power of the error.
-fn turned(l: Loop, phase: f32, power: f32, reliable: bool) -> Loop
+fn loop_after(l: Loop, phase: f32, power: f32, reliable: bool) -> Loop
     requires { ⌜ l .alternation ≤ 7 ⌝ }
-    ensures { λ r. ⌜ r ≡ turnedOf l phase power reliable ⌝ }
+    ensures { λ r. ⌜ r ≡ loopAfterOf l phase power reliable ⌝ }
 {
     let e = phase_error(phase);
     let frequency = frequency_after(l.frequency, e);
@@ -145,19 +159,19 @@ pub fn step(
     sample: Complex32,
     reliable: bool,
     oldest: Soft,
-    channel_real: &mut [f32; 256],
-    channel_imaginary: &mut [f32; 256],
-    costs: &mut [f32; 64],
-    parents: &mut [u8; 2048],
+    channel_real: &mut [f32; CHANNELS],
+    channel_imaginary: &mut [f32; CHANNELS],
+    costs: &mut [f32; STATES],
+    parents: &mut [u8; PARENTS],
 ) -> Carried
     requires { ⌜ Ranged c (now «channel_real») (now «channel_imaginary») (now costs) (now parents) ⌝ }
-    ensures same { λ r. ⌜ _≡_ {A = Run} (record { carried = r; channels = record { real = now («channel_real» .exit); imaginary = now («channel_imaginary» .exit) }; costs = now (costs .exit); parents = now (parents .exit) }) (carriedOf c sample reliable oldest (record { real = now («channel_real» .entry); imaginary = now («channel_imaginary» .entry) }) (now (costs .entry)) (now (parents .entry))) ⌝ }
-    ensures kept { λ r. ⌜ Ranged (r .place) (now («channel_real» .exit)) (now («channel_imaginary» .exit)) (now (costs .exit)) (now (parents .exit)) ⌝ }
+    ensures { λ r. ⌜ leaves r «channel_real» «channel_imaginary» costs parents
+        (λ channels held table after. (after ≡ carriedOf c sample reliable oldest channels held table) × Kept after) ⌝ }
 {
     let before = c.turn;
     let detector = c.detector;
     let input = corrected(before, sample);
-    let d = sequence::step::step(
+    let d = lms_detector::step(
         detector,
         input,
         reliable,
@@ -167,7 +181,7 @@ pub fn step(
         costs,
         parents,
     );
-    let turn = turned(before, d.phase, d.power, reliable);
+    let turn = loop_after(before, d.phase, d.power, reliable);
     let next = d.place;
     let answer = d.answer;
     let soft = d.soft;

@@ -1,5 +1,5 @@
 // Case 14: forty steps of a fresh detector, none of them reliable, whatever the symbols are.
-ghost use Rattle.sequence.specs.Ranges.{Ranged};
+ghost use Rattle.lms_detector.specs.Ranges.{Ranged};
 use super::say::number;
 use super::say::text;
 use super::seeded::point;
@@ -77,7 +77,7 @@ fn detect(
     while left > 0 {
         seed = next(seed);
         let write = place.write;
-        let d = sequence::step::step(
+        let d = lms_detector::step(
             place,
             point(seed),
             false,

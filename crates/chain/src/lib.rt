@@ -13,12 +13,12 @@ use carrier::CarrierPlace;
 use clock::ClockPlace;
 use decisions::Decided;
 use decisions::DecisionsPlace;
-use decisions::PARENTS;
 use decisions::POINTS;
 use decisions::decide;
 use peak::KeeperPlace;
 use recovery::RecoveryPlace;
 use recovery::recover;
+use sequence::PARENTS;
 use sequence::soft::Records;
 use signal::ViewPlace;
 

@@ -2,6 +2,7 @@
 use Prim.Native.Nat.{ℕ, _+_, _*_, _≤_, _<_}
 use lib.ListN.{length}
 use Rattle.carrier.specs.Ranges as Carrier
+pub use Rattle.labels.specs.Labels.{mostSymbols}
 use Rattle.signal.specs.declared.ViewPlace.{ViewPlace}
 use Rattle.decisions.specs.Decisions.{DecisionsState}
 use Rattle.decisions.specs.Rows.{Room, Lent}
@@ -9,10 +10,6 @@ use Rattle.decisions.specs.Rows.{Room, Lent}
 pub record ViewRanged (p : ViewPlace) : Type 0 where
   pub head : p .head < 1024
   pub count : p .count ≤ 1024
-
--- as many dibits as 2^52 samples can give
-abbrev pub mostSymbols : ℕ
-mostSymbols = 9007199254740992
 
 pub record Ranged (s : DecisionsState) : Type 0 where
   pub carrier : Carrier.Ranged (s .place .carrier) (s .channels .real) (s .channels .imaginary) (s .costs) (s .parents)

@@ -13,11 +13,14 @@ pub mod step;
 use carrier::CarrierPlace;
 use complex::Complex32;
 use link::link;
+use sequence::CHANNELS;
+use sequence::PARENTS;
+use sequence::STATES;
 use sequence::soft::Records;
 use signal::ViewPlace;
 
-// A parent for each of 64 states, at each of the last 32 symbols.
-pub const PARENTS: usize = 2048;
+// A row holds at most so many symbols.
+pub const SYMBOLS: usize = 256;
 
 // The points that the view holds.
 pub const POINTS: usize = 1024;
@@ -43,13 +46,13 @@ pub struct Decided {
 // as `first` says stand there already; those that the symbols give are written after them.
 pub fn decide(
     first: Decided,
-    symbol_real: &[f32; 256],
-    symbol_imaginary: &[f32; 256],
-    reliable: &[bool; 256],
+    symbol_real: &[f32; SYMBOLS],
+    symbol_imaginary: &[f32; SYMBOLS],
+    reliable: &[bool; SYMBOLS],
     count: usize,
-    channel_real: &mut [f32; 256],
-    channel_imaginary: &mut [f32; 256],
-    costs: &mut [f32; 64],
+    channel_real: &mut [f32; CHANNELS],
+    channel_imaginary: &mut [f32; CHANNELS],
+    costs: &mut [f32; STATES],
     parents: &mut [u8; PARENTS],
     view_real: &mut [f32; POINTS],
     view_imaginary: &mut [f32; POINTS],

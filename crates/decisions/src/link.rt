@@ -4,10 +4,12 @@ ghost use Rattle.decisions.specs.Rows.{answerDibits, answerPair, laidIn,
 ghost use Rattle.decisions.specs.Ranges.{Roomy, Asks};
 ghost use Rattle.decisions.specs.Lends.{givenRoom, leavesRoom, givenRow, leavesRow};
 use super::Decided;
-use super::PARENTS;
 use super::POINTS;
 use super::step::step;
 use complex::Complex32;
+use sequence::CHANNELS;
+use sequence::PARENTS;
+use sequence::STATES;
 use sequence::soft::Slot;
 use sequence::soft::oldest;
 use sequence::walk::Answer;
@@ -31,9 +33,9 @@ pub fn link(
     t: Decided,
     symbol: Complex32,
     reliable: bool,
-    channel_real: &mut [f32; 256],
-    channel_imaginary: &mut [f32; 256],
-    costs: &mut [f32; 64],
+    channel_real: &mut [f32; CHANNELS],
+    channel_imaginary: &mut [f32; CHANNELS],
+    costs: &mut [f32; STATES],
     parents: &mut [u8; PARENTS],
     view_real: &mut [f32; POINTS],
     view_imaginary: &mut [f32; POINTS],

@@ -5,13 +5,15 @@ ghost use Rattle.decisions.specs.Decisions.{Step, toldOf, decidedOf};
 ghost use Rattle.decisions.specs.Ranges.{mostSymbols, Ranged};
 ghost use Rattle.decisions.specs.Lends.{given, leaves};
 use super::DecisionsPlace;
-use super::PARENTS;
 use super::POINTS;
 use carrier::Carried;
 use complex::Complex32;
 use labels::counted;
 use labels::is_conjugated;
 use labels::labelled;
+use sequence::CHANNELS;
+use sequence::PARENTS;
+use sequence::STATES;
 use sequence::soft::Soft;
 use sequence::walk::Answer;
 use signal::ViewPlace;
@@ -58,9 +60,9 @@ pub fn step(
     symbol: Complex32,
     reliable: bool,
     oldest: Soft,
-    channel_real: &mut [f32; 256],
-    channel_imaginary: &mut [f32; 256],
-    costs: &mut [f32; 64],
+    channel_real: &mut [f32; CHANNELS],
+    channel_imaginary: &mut [f32; CHANNELS],
+    costs: &mut [f32; STATES],
     parents: &mut [u8; PARENTS],
     view_real: &mut [f32; POINTS],
     view_imaginary: &mut [f32; POINTS],

@@ -22,6 +22,10 @@ abbrev pub labelledOf : Bool → Answer → Answer
 labelledOf conjugated Silent = Silent
 labelledOf conjugated (Dibit dibit high low) = cond conjugated (Dibit (relabelledOf dibit) low (min high low)) (Dibit dibit high low)
 
+-- 2^53: as many dibits as 2^52 samples, the most that are taken, can give
+abbrev pub mostSymbols : ℕ
+mostSymbols = 9007199254740992
+
 -- a dibit is one more where it counts
 abbrev pub countedOf : ℕ → Answer → Bool → ℕ
 countedOf n Silent counts = n

@@ -1,7 +1,7 @@
 // A dibit as its profile labels it, and what it adds to a count.
 ghost use mathlib.Core.Path.{_≡_};
 ghost use Prim.Native.Nat.{_<_, min};
-ghost use Rattle.labels.specs.Labels.{conjugates, relabelledOf, labelledOf, countedOf};
+ghost use Rattle.labels.specs.Labels.{conjugates, relabelledOf, labelledOf, mostSymbols, countedOf};
 use sequence::walk::Answer;
 
 // Profile 1 is conjugated; every other number acts as 0.
@@ -47,7 +47,7 @@ pub fn labelled(conjugated: bool, answer: Answer) -> Answer
 
 // One more for a dibit that counts.
 pub fn counted(count: u64, answer: Answer, counts: bool) -> u64
-    requires { ⌜ count < 9007199254740992 ⌝ }
+    requires { ⌜ count < mostSymbols ⌝ }
     ensures { λ r. ⌜ r ≡ countedOf count answer counts ⌝ }
 {
     let Answer::Dibit(_, _, _) = answer else {

@@ -155,8 +155,8 @@ module _ (r : Receiver) (table xs : List Float) (ds rs : List ℕ) (t : Typed r)
           keeper-imaginary = s .recovery .keeper .imaginary-size;
           channel-real = s .decisions .carrier .detector .real-size;
           channel-imaginary = s .decisions .carrier .detector .imaginary-size;
-          costs = s .decisions .carrier .detector .costs-size;
-          parents = s .decisions .carrier .detector .parents-size;
+          costs = s .decisions .carrier .detector .skeleton .costs-size;
+          parents = s .decisions .carrier .detector .skeleton .parents-size;
         };
         arm = ran .kept .next .arm;
       }

@@ -13,9 +13,9 @@ use Rattle.complex.specs.declared.Complex32.{Complex32}
 use Rattle.taps.specs.Taps.{bothTables}
 use Rattle.trellis.specs.Metric.{c0, nought}
 use Rattle.trellis.specs.Costs.{c48, Good, fresh-good, good-same}
-use Rattle.trellis.specs.Bound.{good-step}
 use Rattle.sequence.specs.declared.soft.Soft.{Soft}
-use Rattle.sequence.specs.Sequence as sequence
+use Rattle.lms_detector.specs.Detector as lms_detector
+use Rattle.sequence.specs.Theorems.{costs-stepped}
 use Rattle.carrier.specs.Carrier as carrier
 use Rattle.recovery.specs.declared.step.Found.{Found}
 use Rattle.recovery.specs.declared.step.Found.the-variants.{Nothing, Here}
@@ -40,9 +40,10 @@ GoodCosts costs = Good (λ s. getD costs s nan)
 
 -- ---- a value: the costs stay as they are, or the trellis takes a step
 heard-keeps : (f : Found) (r : recovery.RecoveryState) (d : decisions.DecisionsState) (oldest : Soft) → GoodCosts (d .costs) → GoodCosts (heardOf f r d oldest .state .costs)
-unfolding heardOf decisions.decidedOf carrier.carriedOf sequence.detectedOf sequence.detectedWith
+unfolding heardOf decisions.decidedOf carrier.carriedOf lms_detector.detectedOf lms_detector.detectedWith
 heard-keeps Nothing r d oldest g = g
-heard-keeps (Here z reliable) r d oldest g = good-step (d .channels) (d .costs) (carrier.correctedOf (d .place .carrier .turn) z) reliable g
+heard-keeps (Here z reliable) r d oldest g =
+    costs-stepped (d .place .carrier .detector) (carrier.correctedOf (d .place .carrier .turn) z) reliable oldest (d .channels) (d .costs) (d .parents) g
 
 module _ (taps derivatives : List Float) where
   step-keeps : (s : ChainState) (z : Complex32) (oldest : Soft) → GoodCosts (s .costs) → GoodCosts (steppedOf taps derivatives s z oldest .state .costs)

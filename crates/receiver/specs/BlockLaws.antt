@@ -81,7 +81,7 @@ run-asks r table xs ds rs k kr ki hr hi co pa =
           decisions = record {
             carrier = record {
               alternation = b .alternation;
-              detector = record { write = b .write; filled = b .filled; earlier = b .earlier; table = f .table; real-size = hr; imaginary-size = hi; costs-size = co; parents-size = pa };
+              detector = record { skeleton = record { place = record { write = b .write; filled = b .filled; earlier = b .earlier }; table = f .table; costs-size = co; parents-size = pa }; real-size = hr; imaginary-size = hi };
             };
             view = record { head = b .view-head; count = b .view-count };
             locked = f .locked-in;
@@ -123,11 +123,11 @@ run-admitted conjugated r table xs ds rs w k g e =
         view-count = v .view .count;
         clock = u .clock;
         alternation = v .carrier .alternation;
-        write = v .carrier .detector .write;
-        filled = v .carrier .detector .filled;
-        earlier = v .carrier .detector .earlier;
+        write = v .carrier .detector .skeleton .place .write;
+        filled = v .carrier .detector .skeleton .place .filled;
+        earlier = v .carrier .detector .skeleton .place .earlier;
       };
-      table = v .carrier .detector .table;
+      table = v .carrier .detector .skeleton .table;
     })
 
 -- at most two dibits a sample

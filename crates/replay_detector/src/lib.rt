@@ -11,6 +11,8 @@ use replay::mixed_flag;
 use replay::mixed_float32;
 use replay::next;
 use replay::part;
+use sequence::PARENTS;
+use sequence::STEPS;
 use sequence::soft::Records;
 use sequence::soft::Slot;
 use sequence::soft::Soft;
@@ -68,13 +70,13 @@ fn parent(kind: u64, seed: u64) -> u8
 }
 
 // Stored parents: zeros, or any states; and the seed after them.
-pub fn fill_parents(s: u64, kind: u64, parents: &mut [u8; 2048]) -> u64
+pub fn fill_parents(s: u64, kind: u64, parents: &mut [u8; PARENTS]) -> u64
     requires { ⌜ length (now parents) ≡ 2048 ⌝ }
     ensures { λ r. ⌜ Table (now (parents .exit)) × (length (now (parents .exit)) ≡ 2048) ⌝ }
 {
     let mut seed = s;
     let mut i = 0;
-    while i < 2048 {
+    while i < PARENTS {
         seed = next(seed);
         parents[i] = parent(kind, seed);
         i += 1;
@@ -96,7 +98,7 @@ pub fn made_records(s: u64, kind: u64) -> MadeRecords {
     let mut records = sequence::step::fresh_records();
     let mut seed = s;
     let mut i = 0;
-    while i < 32 {
+    while i < STEPS {
         let word = next(seed);
         let first = next(word);
         let second = next(first);
@@ -206,7 +208,7 @@ fn mixed_soft(h: u64, soft: Soft) -> u64 {
 pub fn mixed_records(h: u64, records: Records) -> u64 {
     let mut d = h;
     let mut i = 0;
-    while i < 32 {
+    while i < STEPS {
         let slot = records.slots[i];
         let soft = slot.soft;
         d = mixed_soft(d, soft);

@@ -3,7 +3,7 @@
 // in the order of the list that the oracle prints.
 ghost use Prim.Native.Nat.{_<_, _≤_};
 ghost use lib.ListN.{length};
-ghost use Rattle.sequence.specs.Ranges.{Ranged};
+ghost use Rattle.lms_detector.specs.Ranges.{Ranged};
 use complex::Complex32;
 use numbers::bits::float32;
 use replay::fill;
@@ -22,6 +22,9 @@ use replay_detector::mixed_records;
 use replay_detector::shown;
 use replay_detector::started;
 use replay_detector::stored;
+use sequence::CHANNELS;
+use sequence::PARENTS;
+use sequence::STATES;
 use sequence::soft::Records;
 use sequence::step::Detected;
 use sequence::step::DetectorPlace;
@@ -45,10 +48,10 @@ fn tell(
     asked: u64,
     d: Detected,
     records: Records,
-    real: &[f32; 256],
-    imaginary: &[f32; 256],
-    costs: &[f32; 64],
-    parents: &[u8; 2048],
+    real: &[f32; CHANNELS],
+    imaginary: &[f32; CHANNELS],
+    costs: &[f32; STATES],
+    parents: &[u8; PARENTS],
 ) {
     let answer = d.answer;
     let place = d.place;
@@ -68,10 +71,10 @@ fn run(
     count: u64,
     place: DetectorPlace,
     held: Records,
-    real: &mut [f32; 256],
-    imaginary: &mut [f32; 256],
-    costs: &mut [f32; 64],
-    parents: &mut [u8; 2048],
+    real: &mut [f32; CHANNELS],
+    imaginary: &mut [f32; CHANNELS],
+    costs: &mut [f32; STATES],
+    parents: &mut [u8; PARENTS],
 )
     requires { ⌜ Ranged place (now real) (now imaginary) (now costs) (now parents) ⌝ }
 {
@@ -82,7 +85,7 @@ fn run(
         let mut step = [0u8; 16];
         io::read_full(0, &mut step);
         let write = p.write;
-        let d = sequence::step::step(
+        let d = lms_detector::step(
             p,
             input(word(&step, 0)),
             word(&step, 8) == 1,
@@ -120,9 +123,9 @@ fn decoded(head: &[u8]) -> Request
 fn answer(q: Request) {
     let start = started(q.start);
     let mut real = sequence::step::fresh_channels();
-    let mut imaginary: [f32; 256] = [0.0; 256];
-    let mut costs: [f32; 64] = [0.0; 64];
-    let mut parents: [u8; 2048] = [0; 2048];
+    let mut imaginary: [f32; CHANNELS] = [0.0; CHANNELS];
+    let mut costs: [f32; STATES] = [0.0; STATES];
+    let mut parents: [u8; PARENTS] = [0; PARENTS];
     let a = fill(q.seed, start.floats, &mut real);
     let b = fill(a, start.floats, &mut imaginary);
     let c = fill(b, start.costs, &mut costs);

@@ -3,9 +3,9 @@
 ghost use mathlib.Core.Path.{_≡_};
 ghost use Rattle.samples.specs.Run.{given, leaves, wholeOf, Going, ReadyRun};
 use chain::ChainPlace;
-use decisions::PARENTS;
 use decisions::POINTS;
 use front::FrontPlace;
+use sequence::PARENTS;
 use sequence::soft::Records;
 
 // The places of the resampler's ring.

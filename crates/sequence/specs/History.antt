@@ -17,45 +17,41 @@ use Rattle.sequence.specs.declared.walk.Previous.the-variants.{Symbol}
 use Rattle.sequence.specs.declared.walk.Answer.the-variants.{Silent}
 use Rattle.sequence.specs.declared.walk.Walked.{Walked}
 use Rattle.sequence.specs.Observed.{slotOf}
-use Rattle.sequence.specs.Walk.{storedOf, parentBefore, stateBefore, decidedOf, walkedOf}
-use Rattle.sequence.specs.Sequence.{oneMore, reportedOf, detectedWith, detectedOf}
-use Rattle.sequence.specs.Ranges.{Ranged}
+use Rattle.sequence.specs.Walk.{storedOf, parentBefore, stateBeforeOf, decidedOf, walkedOf}
+use Rattle.sequence.specs.Sequence.{oneMoreOf, reportedOf, steppedWith, steppedOf}
+use Rattle.sequence.specs.Ranges.{Sound}
 use Rattle.sequence.specs.Laws.{walk-silent, walk-full}
-use Rattle.sequence.specs.Steps.{below-is, above-is, stored-row, stored-other, detected-ranged}
-use Rattle.sequence.specs.Detector.{Detector, Input, oldestOf, runOf, answerOf, putOf, stepOf, ranOf, Made, madeBy, madeAt, historyOf, traced}
+use Rattle.sequence.specs.Steps.{below-is, above-is, stored-row, stored-other, stepped-kept}
+use Rattle.sequence.specs.Skeleton.{Skeleton, Step, oldestOf, leftOf, answerOf, putOf, afterOf, ranOf, Made, madeBy, madeAt, historyOf, traced}
 
 -- ---- ranges
-pub record Sound (d : Detector) : Type 0 where
-  pub ranged : Ranged (d .place) (d .channels .real) (d .channels .imaginary) (d .costs) (d .parents)
-  pub slots : length (d .records .slots) ≡ 32
-
-pub step-sound : (d : Detector) (i : Input) → Sound d → Sound (stepOf d i)
+pub step-sound : (d : Skeleton) (i : Step) → Sound d → Sound (afterOf d i)
 unfolding putOf
 step-sound d i h = record {
-  ranged = detected-ranged (d .place) (i .value) (i .reliable) (oldestOf d) (d .channels) (d .costs) (d .parents) (h .ranged);
+  ranged = stepped-kept (d .place) (i .value) (i .reliable) (oldestOf d) (i .channels) (d .costs) (d .parents) (h .ranged) .0;
   slots = length-set (d .records .slots) (d .place .write) _ ∙ h .slots;
 }
 
 -- THE THEOREM: from any state in range, every list of inputs leaves one
-pub ran-sound : (d : Detector) (is : List Input) → Sound d → Sound (ranOf d is)
+pub ran-sound : (d : Skeleton) (is : List Step) → Sound d → Sound (ranOf d is)
 ran-sound d [] h = h
-ran-sound d (i ∷ is) h = ran-sound (stepOf d i) is (step-sound d i h)
+ran-sound d (i ∷ is) h = ran-sound (afterOf d i) is (step-sound d i h)
 
 -- ---- one step's places
-next-write : (d : Detector) (i : Input) → stepOf d i .place .write ≡ (d .place .write + 1) % 32
-unfolding detectedOf detectedWith reportedOf
+next-write : (d : Skeleton) (i : Step) → afterOf d i .place .write ≡ (d .place .write + 1) % 32
+unfolding steppedOf steppedWith reportedOf
 next-write d i = refl
 
-pub next-parents : (d : Detector) (i : Input) → runOf d i .parents ≡ storedOf (d .parents) (d .place .write) (madeBy d i .row)
-unfolding detectedOf detectedWith
+pub next-parents : (d : Skeleton) (i : Step) → leftOf d i .parents ≡ storedOf (d .parents) (d .place .write) (madeBy d i .row)
+unfolding steppedOf steppedWith
 next-parents d i = refl
 
 -- ---- the history that a detector holds: of each step made, up to 32 back
-pub record Holds (d : Detector) (made : List Made) : Type 0 where
+pub record Holds (d : Skeleton) (made : List Made) : Type 0 where
   pub rows : (k s : ℕ) → k < 32 → k < length made → s < 64 → getD (d .parents) (64 * ((d .place .write + 31 - k) % 32) + s) 0 ≡ getD (madeAt made k .row) s 0
   pub softs : (k : ℕ) → k < 32 → k < length made → getD (d .records .slots) ((d .place .write + 31 - k) % 32) (slotOf Unrecorded) .soft ≡ madeAt made k .soft
 
-pub holds-none : (d : Detector) → Holds d []
+pub holds-none : (d : Skeleton) → Holds d []
 holds-none d = record { rows = λ k s a b. absurd (omega arith); softs = λ k a b. absurd (omega arith) }
 
 -- the place of the step just made, and of those before it
@@ -68,17 +64,17 @@ place-before w k h l = omega arith
 place-other : (w k : ℕ) → w < 32 → suc k < 32 → (w + 31 - k) % 32 ≡ w → ⊥
 place-other w k h l e = omega arith
 
-holds-step : (d : Detector) (i : Input) (made : List Made) → Sound d → Holds d made → Holds (stepOf d i) (madeBy d i ∷ made)
+holds-step : (d : Skeleton) (i : Step) (made : List Made) → Sound d → Holds d made → Holds (afterOf d i) (madeBy d i ∷ made)
 holds-step d i made h o = record { rows = rows; softs = softs }
   where
     w : ℕ
     w = d .place .write
 
     in-ring : d .place .write < 32
-    in-ring = h .ranged .write
+    in-ring = h .ranged .place .write
 
     rows : (k s : ℕ) → k < 32 → k < suc (length made) → s < 64
-        → getD (stepOf d i .parents) (64 * ((stepOf d i .place .write + 31 - k) % 32) + s) 0 ≡ getD (madeAt (madeBy d i ∷ made) k .row) s 0
+        → getD (afterOf d i .parents) (64 * ((afterOf d i .place .write + 31 - k) % 32) + s) 0 ≡ getD (madeAt (madeBy d i ∷ made) k .row) s 0
     rows zero s a b l =
         rw (next-write d i, place-newest (d .place .write) in-ring, next-parents d i) (stored-row (d .parents) (d .place .write) (madeBy d i .row) in-ring (h .ranged .parents-size) s l)
     rows (suc k) s a b l =
@@ -87,7 +83,7 @@ holds-step d i made h o = record { rows = rows; softs = softs }
         ∙ o .rows k s (omega arith) (omega arith) l)
 
     softs : (k : ℕ) → k < 32 → k < suc (length made)
-        → getD (stepOf d i .records .slots) ((stepOf d i .place .write + 31 - k) % 32) (slotOf Unrecorded) .soft ≡ madeAt (madeBy d i ∷ made) k .soft
+        → getD (afterOf d i .records .slots) ((afterOf d i .place .write + 31 - k) % 32) (slotOf Unrecorded) .soft ≡ madeAt (madeBy d i ∷ made) k .soft
     softs zero a b =
         unfold putOf in
         rw (next-write d i, place-newest (d .place .write) in-ring)
@@ -98,60 +94,60 @@ holds-step d i made h o = record { rows = rows; softs = softs }
         (ap (λ (z : Slot). z .soft) (getD-set-other (d .records .slots) (d .place .write) ((d .place .write + 31 - k) % 32) (slotOf (madeBy d i .soft)) (slotOf Unrecorded) (place-other (d .place .write) k in-ring a))
         ∙ o .softs k (omega arith) (omega arith))
 
-pub holds-ran : (d : Detector) (before : List Made) (is : List Input) → Sound d → Holds d before → Holds (ranOf d is) (historyOf d before is)
+pub holds-ran : (d : Skeleton) (before : List Made) (is : List Step) → Sound d → Holds d before → Holds (ranOf d is) (historyOf d before is)
 holds-ran d before [] h o = o
-holds-ran d before (i ∷ is) h o = holds-ran (stepOf d i) (madeBy d i ∷ before) is (step-sound d i h) (holds-step d i before h o)
+holds-ran d before (i ∷ is) h o = holds-ran (afterOf d i) (madeBy d i ∷ before) is (step-sound d i h) (holds-step d i before h o)
 
 -- ---- the walk back
-history-length : (d : Detector) (before : List Made) (is : List Input) → length (historyOf d before is) ≡ length before + length is
+history-length : (d : Skeleton) (before : List Made) (is : List Step) → length (historyOf d before is) ≡ length before + length is
 history-length d before [] = omega arith
-history-length d before (i ∷ is) = history-length (stepOf d i) (madeBy d i ∷ before) is ∙ (omega arith)
+history-length d before (i ∷ is) = history-length (afterOf d i) (madeBy d i ∷ before) is ∙ (omega arith)
 
 place-read : (w k : ℕ) → w < 32 → k < 32 → ((w + 1) % 32 + 31 - k) % 32 ≡ (w + 32 - k) % 32
 place-read w k h l = omega arith
 
-module _ (d : Detector) (i : Input) (made : List Made) (h : Sound d) (o : Holds d made) (enough : 30 ≤ length made) where
-  read-at : (k s : ℕ) → k < 31 → s < 64 → parentBefore (runOf d i .parents) (d .place .write) k s ≡ getD (madeAt (madeBy d i ∷ made) k .row) s 0
+module _ (d : Skeleton) (i : Step) (made : List Made) (h : Sound d) (o : Holds d made) (enough : 30 ≤ length made) where
+  read-at : (k s : ℕ) → k < 31 → s < 64 → parentBefore (leftOf d i .parents) (d .place .write) k s ≡ getD (madeAt (madeBy d i ∷ made) k .row) s 0
   read-at k s a l =
-      ap (λ (z : ℕ). getD (runOf d i .parents) (64 * z + s) 0) (sym (ap (λ (z : ℕ). (z + 31 - k) % 32) (next-write d i) ∙ place-read (d .place .write) k (h .ranged .write) (omega arith)))
+      ap (λ (z : ℕ). getD (leftOf d i .parents) (64 * z + s) 0) (sym (ap (λ (z : ℕ). (z + 31 - k) % 32) (next-write d i) ∙ place-read (d .place .write) k (h .ranged .place .write) (omega arith)))
       ∙ holds-step d i made h o .rows k s (omega arith) (omega arith) l
 
-  read-below : (k s : ℕ) → k < 31 → s < 64 → parentBefore (runOf d i .parents) (d .place .write) k s < 64
-  read-below k s a l = let w = h .ranged .write in step-sound d i h .ranged .table .below (64 * ((d .place .write + 32 - k) % 32) + s) (omega arith)
+  read-below : (k s : ℕ) → k < 31 → s < 64 → parentBefore (leftOf d i .parents) (d .place .write) k s < 64
+  read-below k s a l = let w = h .ranged .place .write in step-sound d i h .ranged .table .below (64 * ((d .place .write + 32 - k) % 32) + s) (omega arith)
 
-  walked-below : (n best : ℕ) → n ≤ 31 → best < 64 → turns (parentBefore (runOf d i .parents) (d .place .write)) n best < 64
+  walked-below : (n best : ℕ) → n ≤ 31 → best < 64 → turns (parentBefore (leftOf d i .parents) (d .place .write)) n best < 64
   unfolding turns
   walked-below zero best a l = l
   walked-below (suc n) best a l = read-below n _ (omega arith) (walked-below n best (omega arith) l)
 
-  walked-is : (n best : ℕ) → n ≤ 31 → best < 64 → turns (parentBefore (runOf d i .parents) (d .place .write)) n best ≡ traced (madeBy d i ∷ made) n best
+  walked-is : (n best : ℕ) → n ≤ 31 → best < 64 → turns (parentBefore (leftOf d i .parents) (d .place .write)) n best ≡ traced (madeBy d i ∷ made) n best
   unfolding turns
   walked-is zero best a l = refl
   walked-is (suc n) best a l =
       read-at n _ (omega arith) (walked-below n best (omega arith) l) ∙ ap (λ (z : ℕ). getD (madeAt (madeBy d i ∷ made) n .row) z 0) (walked-is n best (omega arith) l)
 
   -- the 31 newest parents: the step's own and those of the 30 before it
-  pub state-traced : (best : ℕ) → best < 64 → stateBefore (runOf d i .parents) (d .place .write) best ≡ traced (madeBy d i ∷ made) 31 best
-  unfolding stateBefore
+  pub state-traced : (best : ℕ) → best < 64 → stateBeforeOf (leftOf d i .parents) (d .place .write) best ≡ traced (madeBy d i ∷ made) 31 best
+  unfolding stateBeforeOf
   state-traced best l = walked-is 31 best (omega arith) l
 
 -- the record of 31 steps before
-pub oldest-made : (d : Detector) (made : List Made) → Sound d → Holds d made → 31 ≤ length made → oldestOf d ≡ madeAt made 30 .soft
+pub oldest-made : (d : Skeleton) (made : List Made) → Sound d → Holds d made → 31 ≤ length made → oldestOf d ≡ madeAt made 30 .soft
 oldest-made d made h o l =
-    let w = h .ranged .write in
+    let w = h .ranged .place .write in
     let e : (d .place .write + 1) % 32 ≡ (d .place .write + 31 - 30) % 32 = omega arith in
     ap (λ (z : ℕ). getD (d .records .slots) z (slotOf Unrecorded) .soft) e ∙ o .softs 30 (omega arith) (omega arith)
 
 -- ---- how many steps are held
-pub filled-next : (d : Detector) (i : Input) → stepOf d i .place .filled ≡ oneMore (d .place .filled)
-unfolding detectedOf detectedWith reportedOf
+pub filled-next : (d : Skeleton) (i : Step) → afterOf d i .place .filled ≡ oneMoreOf (d .place .filled)
+unfolding steppedOf steppedWith reportedOf
 filled-next d i = refl
 
-filled-least : (d : Detector) (is : List Input) (n : ℕ) → n ≤ 32 → n ≤ d .place .filled + length is → n ≤ ranOf d is .place .filled
+filled-least : (d : Skeleton) (is : List Step) (n : ℕ) → n ≤ 32 → n ≤ d .place .filled + length is → n ≤ ranOf d is .place .filled
 filled-least d [] n a l = omega arith
-filled-least d (i ∷ is) n a l = filled-least (stepOf d i) is n a (rw (filled-next d i) (go (d .place .filled) (length is) l))
+filled-least d (i ∷ is) n a l = filled-least (afterOf d i) is n a (rw (filled-next d i) (go (d .place .filled) (length is) l))
   where
-    go : (f m : ℕ) → n ≤ f + suc m → n ≤ oneMore f + m
+    go : (f m : ℕ) → n ≤ f + suc m → n ≤ oneMoreOf f + m
     go f m l =
         ⊎-elim
         (λ b. subst (λ (z : ℕ). n ≤ z + m) (below-is f 32 (f + 1) 32 b) (omega arith))
@@ -159,23 +155,23 @@ filled-least d (i ∷ is) n a l = filled-least (stepOf d i) is n a (rw (filled-n
         (lt-or-ge f 32)
 
 -- ---- what a step answers
-abbrev pub bestState : Detector → Input → ℕ
-bestState d i = advancedOf (d .channels) (d .costs) (i .value) (i .reliable) .best
+abbrev pub bestState : Skeleton → Step → ℕ
+bestState d i = advancedOf (i .channels) (d .costs) (i .value) (i .reliable) .best
 
 -- where the walk back ends
-abbrev pub endOf : Detector → Input → ℕ
-endOf d i = stateBefore (runOf d i .parents) (d .place .write) (bestState d i)
+abbrev pub endOf : Skeleton → Step → ℕ
+endOf d i = stateBeforeOf (leftOf d i .parents) (d .place .write) (bestState d i)
 
-abbrev walkOf : Detector → Input → Walked
-walkOf d i = walkedOf (runOf d i .parents) (d .place .write) (d .place .filled) (bestState d i) (d .place .previous) (oldestOf d)
+abbrev walkOf : Skeleton → Step → Walked
+walkOf d i = walkedOf (leftOf d i .parents) (d .place .write) (d .place .filled) (bestState d i) (d .place .previous) (oldestOf d)
 
-module _ (d : Detector) (i : Input) where
+module _ (d : Skeleton) (i : Step) where
   answer-walked : answerOf d i ≡ walkOf d i .answer
-  unfolding detectedOf detectedWith reportedOf
+  unfolding steppedOf steppedWith reportedOf
   answer-walked = refl
 
-  previous-walked : stepOf d i .place .previous ≡ walkOf d i .previous
-  unfolding detectedOf detectedWith reportedOf
+  previous-walked : afterOf d i .place .previous ≡ walkOf d i .previous
+  unfolding steppedOf steppedWith reportedOf
   previous-walked = refl
 
   -- with fewer than 31 steps before it, a step is silent
@@ -185,7 +181,7 @@ module _ (d : Detector) (i : Input) where
   pub answer-short : d .place .filled < 31 → answerOf d i ≡ Silent
   answer-short h = answer-walked ∙ ap (λ (z : Walked). z .answer) (short h)
 
-  pub previous-short : d .place .filled < 31 → stepOf d i .place .previous ≡ d .place .previous
+  pub previous-short : d .place .filled < 31 → afterOf d i .place .previous ≡ d .place .previous
   previous-short h = previous-walked ∙ ap (λ (z : Walked). z .previous) (short h)
 
   -- with 31 it is decided
@@ -195,16 +191,16 @@ module _ (d : Detector) (i : Input) where
   pub answer-long : 31 ≤ d .place .filled → answerOf d i ≡ decidedOf (endOf d i % 4) (d .place .previous) (oldestOf d)
   answer-long h = answer-walked ∙ ap (λ (z : Walked). z .answer) (long h)
 
-  pub previous-long : 31 ≤ d .place .filled → stepOf d i .place .previous ≡ Symbol (endOf d i % 4)
+  pub previous-long : 31 ≤ d .place .filled → afterOf d i .place .previous ≡ Symbol (endOf d i % 4)
   previous-long h = previous-walked ∙ ap (λ (z : Walked). z .previous) (long h)
 
-best-state : (d : Detector) (i : Input) → bestState d i < 64
+best-state : (d : Skeleton) (i : Step) → bestState d i < 64
 unfolding advancedOf
 best-state d i = best-below _
 
 -- THE THEOREM: from any state in range, once 31 steps are made the next is decided by the 31 newest steps' parents, from its own best state back, and by
 -- the record that the step 31 before made
-pub answered : (d : Detector) (is : List Input) (i : Input) → Sound d → 31 ≤ length is
+pub answered : (d : Skeleton) (is : List Step) (i : Step) → Sound d → 31 ≤ length is
     → answerOf (ranOf d is) i
     ≡ decidedOf (traced (madeBy (ranOf d is) i ∷ historyOf d [] is) 31 (bestState (ranOf d is) i) % 4) (ranOf d is .place .previous) (madeAt (historyOf d [] is) 30 .soft)
 answered d is i h l =

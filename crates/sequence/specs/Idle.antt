@@ -27,12 +27,13 @@ use Rattle.sequence.specs.declared.walk.Previous.{Previous}
 use Rattle.sequence.specs.declared.walk.Previous.the-variants.{Unknown, Symbol}
 use Rattle.sequence.specs.declared.walk.Answer.{Answer}
 use Rattle.sequence.specs.declared.walk.Answer.the-variants.{Silent, Dibit}
-use Rattle.sequence.specs.Observed.{seenWith, seenOf, recordOf, slotOf}
-use Rattle.sequence.specs.Walk.{storedOf, parentBefore, stateBefore, decidedOf}
-use Rattle.sequence.specs.Sequence.{freshRecords, reportedOf, detectedWith, detectedOf}
+use Rattle.sequence.specs.Observed.{observedWith, observedOf, recordOf, slotOf}
+use Rattle.sequence.specs.Walk.{storedOf, parentBefore, stateBeforeOf, decidedOf}
+use Rattle.sequence.specs.Sequence.{freshRecords, reportedOf, steppedWith, steppedOf}
+use Rattle.sequence.specs.Ranges.{Sound}
 use Rattle.sequence.specs.Steps.{below-is, above-is, same-or-other, stored-row, stored-other}
-use Rattle.sequence.specs.Detector.{Detector, freshDetector, Input, oldestOf, runOf, answerOf, putOf, stepOf, answersOf, madeBy}
-use Rattle.sequence.specs.History.{Sound, step-sound, next-parents, endOf, previous-short, previous-long}
+use Rattle.sequence.specs.Skeleton.{Skeleton, freshSkeleton, Step, oldestOf, leftOf, answerOf, putOf, afterOf, answersOf, madeBy}
+use Rattle.sequence.specs.History.{step-sound, next-parents, endOf, previous-short, previous-long}
 use Rattle.sequence.specs.Theorems.{fresh-sound, Counted, counted-fresh, counted-step, quiet, decided}
 
 abbrev none : Float
@@ -59,9 +60,9 @@ not-before : precedes none none ≡ false
 unfolding ofBits lt eq signOf precedes
 not-before = refl
 
-no-metric : (input guess : Complex32) (reliable : Bool) → reliable ≡ false → metricOf input guess reliable ≡ none
+no-metric : (input prediction : Complex32) (reliable : Bool) → reliable ≡ false → metricOf input prediction reliable ≡ none
 unfolding metricOf
-no-metric input guess reliable e = rw e
+no-metric input prediction reliable e = rw e
 
 better-first : (y : Branch) → y .cost ≡ none → better noBranch y ≡ y
 unfolding better
@@ -126,15 +127,15 @@ AtZero Unknown = Unit
 AtZero (Symbol k) = k ≡ 0
 
 -- every cost is 0, the state 0 comes of the state 0 at every step, no record is held, and the last symbol, where there is one, was 0
-pub record Idle (d : Detector) : Type 0 where
+pub record Idle (d : Skeleton) : Type 0 where
   pub sound : Sound d
   pub costs : (s : ℕ) → s < 64 → getD (d .costs) s nan ≡ none
   pub roots : (w : ℕ) → w < 32 → getD (d .parents) (64 * w + 0) 0 ≡ 0
   pub softs : (k : ℕ) → k < 32 → getD (d .records .slots) k (slotOf Unrecorded) .soft ≡ Unrecorded
   pub previous : AtZero (d .place .previous)
 
-idle-fresh : Idle freshDetector
-unfolding freshDetector freshRecords
+idle-fresh : Idle freshSkeleton
+unfolding freshSkeleton freshRecords
 idle-fresh = record {
   sound = fresh-sound;
   costs = λ s h. getD-replicate 64 s none nan h;
@@ -143,61 +144,65 @@ idle-fresh = record {
   previous = tt;
 }
 
-unseen : (input : Complex32) (reliable : Bool) (t : Taps) (p : ℕ) → reliable ≡ false → seenOf input reliable t p .combined ≡ Absent
-unfolding seenOf seenWith
+unseen : (input : Complex32) (reliable : Bool) (t : Taps) (p : ℕ) → reliable ≡ false → observedOf input reliable t p .combined ≡ Absent
+unfolding observedOf observedWith
 unseen input reliable t p e = rw e
 
 no-record : (now before : Observation) (noise : Float) → now ≡ Absent → recordOf now before noise ≡ Unrecorded
 no-record now before noise e = rw e
 
-unrecorded : (d : Detector) (i : Input) → i .reliable ≡ false → runOf d i .detected .soft ≡ Unrecorded
-unfolding detectedOf detectedWith reportedOf
+unrecorded : (d : Skeleton) (i : Step) → i .reliable ≡ false → leftOf d i .detected .soft ≡ Unrecorded
+unfolding steppedOf steppedWith reportedOf
 unrecorded d i e = no-record _ _ _ (unseen (i .value) (i .reliable) _ _ e)
 
-module _ (d : Detector) (i : Input) (h : Idle d) (off : i .reliable ≡ false) where
-  new-roots : (w : ℕ) → w < 32 → getD (runOf d i .parents) (64 * w + 0) 0 ≡ 0
+module _ (d : Skeleton) (i : Step) (h : Idle d) (off : i .reliable ≡ false) where
+  root-made : getD (madeBy d i .row) 0 0 ≡ 0
+  unfolding steppedOf steppedWith
+  root-made = root-zero (i .channels) (d .costs) (i .value) (i .reliable) off (h .costs)
+
+  new-roots : (w : ℕ) → w < 32 → getD (leftOf d i .parents) (64 * w + 0) 0 ≡ 0
   new-roots w l =
       let r = h .sound .ranged in
       ap (λ (z : List ℕ). getD z (64 * w + 0) 0) (next-parents d i)
       ∙ ⊎-elim
       (λ e. ap (λ (z : ℕ). getD (storedOf (d .parents) (d .place .write) (madeBy d i .row)) (64 * z + 0) 0) e
-      ∙ stored-row (d .parents) (d .place .write) (madeBy d i .row) (r .write) (r .parents-size) 0 (omega arith)
-      ∙ root-zero (d .channels) (d .costs) (i .value) (i .reliable) off (h .costs))
-      (λ n. stored-other (d .parents) (d .place .write) (madeBy d i .row) (r .write) (r .parents-size) w 0 (omega arith) n ∙ h .roots w l)
+      ∙ stored-row (d .parents) (d .place .write) (madeBy d i .row) (r .place .write) (r .parents-size) 0 (omega arith)
+      ∙ root-made)
+      (λ n. stored-other (d .parents) (d .place .write) (madeBy d i .row) (r .place .write) (r .parents-size) w 0 (omega arith) n ∙ h .roots w l)
       (same-or-other w (d .place .write))
 
-  back-zero : (n : ℕ) → n ≤ 31 → turns (parentBefore (runOf d i .parents) (d .place .write)) n 0 ≡ 0
+  back-zero : (n : ℕ) → n ≤ 31 → turns (parentBefore (leftOf d i .parents) (d .place .write)) n 0 ≡ 0
   unfolding turns
   back-zero zero l = refl
-  back-zero (suc n) l = ap (parentBefore (runOf d i .parents) (d .place .write) n) (back-zero n (omega arith)) ∙ new-roots ((d .place .write + 32 - n) % 32) (omega arith)
+  back-zero (suc n) l = ap (parentBefore (leftOf d i .parents) (d .place .write) n) (back-zero n (omega arith)) ∙ new-roots ((d .place .write + 32 - n) % 32) (omega arith)
 
   state-zero : endOf d i ≡ 0
-  unfolding stateBefore
-  state-zero = ap (turns (parentBefore (runOf d i .parents) (d .place .write)) 31) (best-zero (d .channels) (d .costs) (i .value) (i .reliable) off (h .costs)) ∙ back-zero 31 (omega arith)
+  unfolding stateBeforeOf
+  state-zero = ap (turns (parentBefore (leftOf d i .parents) (d .place .write)) 31) (best-zero (i .channels) (d .costs) (i .value) (i .reliable) off (h .costs)) ∙ back-zero 31 (omega arith)
 
-  still : AtZero (stepOf d i .place .previous)
+  still : AtZero (afterOf d i .place .previous)
   still =
       ⊎-elim
       (λ a. subst AtZero (sym (previous-short d i a)) (h .previous))
       (λ a. subst AtZero (sym (previous-long d i a)) (ap (λ (z : ℕ). z % 4) state-zero))
       (lt-or-ge (d .place .filled) 31)
 
-  new-softs : (k : ℕ) → k < 32 → getD (stepOf d i .records .slots) k (slotOf Unrecorded) .soft ≡ Unrecorded
+  new-softs : (k : ℕ) → k < 32 → getD (afterOf d i .records .slots) k (slotOf Unrecorded) .soft ≡ Unrecorded
   unfolding putOf
   new-softs k l =
       let r = h .sound in
       ⊎-elim
-      (λ e. ap (λ (z : ℕ). getD (stepOf d i .records .slots) z (slotOf Unrecorded) .soft) e
-      ∙ ap (λ (z : Slot). z .soft) (getD-set-same (d .records .slots) (d .place .write) (slotOf (madeBy d i .soft)) (slotOf Unrecorded) (rw (r .slots) (r .ranged .write)))
+      (λ e. ap (λ (z : ℕ). getD (afterOf d i .records .slots) z (slotOf Unrecorded) .soft) e
+      ∙ ap (λ (z : Slot). z .soft) (getD-set-same (d .records .slots) (d .place .write) (slotOf (madeBy d i .soft)) (slotOf Unrecorded) (rw (r .slots) (r .ranged .place .write)))
       ∙ unrecorded d i off)
       (λ n. ap (λ (z : Slot). z .soft) (getD-set-other (d .records .slots) (d .place .write) k (slotOf (madeBy d i .soft)) (slotOf Unrecorded) n) ∙ h .softs k l)
       (same-or-other k (d .place .write))
 
-  new-costs : (s : ℕ) → s < 64 → getD (stepOf d i .costs) s nan ≡ none
-  unfolding detectedOf detectedWith
-  new-costs s l = costs-none (d .channels) (d .costs) (i .value) (i .reliable) off (h .costs) s l
+  new-costs : (s : ℕ) → s < 64 → getD (afterOf d i .costs) s nan ≡ none
+  unfolding steppedOf steppedWith
+  new-costs s l = costs-none (i .channels) (d .costs) (i .value) (i .reliable) off (h .costs) s l
 
-  idle-step : Idle (stepOf d i)
+  idle-step : Idle (afterOf d i)
   idle-step = record { sound = step-sound d i (h .sound); costs = new-costs; roots = new-roots; softs = new-softs; previous = still }
 
   zero-decided : (previous : Previous) → AtZero previous → decidedOf 0 previous Unrecorded ≡ Dibit 0 0 0
@@ -212,7 +217,7 @@ module _ (d : Detector) (i : Input) (h : Idle d) (off : i .reliable ≡ false) w
       ∙ zero-decided (d .place .previous) (h .previous)
 
 -- ---- many unreliable steps
-abbrev pub Unreliable : List Input → Type 0
+abbrev pub Unreliable : List Step → Type 0
 Unreliable [] = Unit
 Unreliable (i ∷ is) = (i .reliable ≡ false) × Unreliable is
 
@@ -221,7 +226,7 @@ abbrev pub dues : ℕ → ℕ → List Answer
 dues n zero = []
 dues n (suc m) = cond (ltb n 31) Silent (Dibit 0 0 0) ∷ dues (suc n) m
 
-pub idle-answers : (n : ℕ) (d : Detector) (is : List Input) → Counted n d → Idle d → Unreliable is → answersOf d is ≡ dues n (length is)
+pub idle-answers : (n : ℕ) (d : Skeleton) (is : List Step) → Counted n d → Idle d → Unreliable is → answersOf d is ≡ dues n (length is)
 idle-answers n d [] c h u = refl
 idle-answers n d (i ∷ is) c h u =
     ap₂ (λ (a : Answer) (rest : List Answer). a ∷ rest)
@@ -229,8 +234,8 @@ idle-answers n d (i ∷ is) c h u =
     (λ l. quiet n d i c l ∙ below-is n 31 Silent (Dibit 0 0 0) l)
     (λ g. idle-answer d i h (u .0) n c g ∙ above-is n 31 Silent (Dibit 0 0 0) g)
     (lt-or-ge n 31))
-    (idle-answers (suc n) (stepOf d i) is (counted-step n d i c) (idle-step d i h (u .0)) (u .1))
+    (idle-answers (suc n) (afterOf d i) is (counted-step n d i c) (idle-step d i h (u .0)) (u .1))
 
 -- CASE 14: of 40 unreliable steps of a fresh detector 31 are silent, and then come nine of dibit 0 with [0, 0]
-pub case-14 : (is : List Input) → length is ≡ 40 → Unreliable is → answersOf freshDetector is ≡ replicate 31 Silent ++ replicate 9 (Dibit 0 0 0)
-case-14 is e u = idle-answers 0 freshDetector is counted-fresh idle-fresh u ∙ ap (dues 0) e
+pub case-14 : (is : List Step) → length is ≡ 40 → Unreliable is → answersOf freshSkeleton is ≡ replicate 31 Silent ++ replicate 9 (Dibit 0 0 0)
+case-14 is e u = idle-answers 0 freshSkeleton is counted-fresh idle-fresh u ∙ ap (dues 0) e

@@ -19,30 +19,30 @@ use Rattle.sequence.specs.declared.walk.Previous.the-variants.{Symbol}
 use Rattle.sequence.specs.declared.walk.Answer.{Answer}
 use Rattle.sequence.specs.declared.walk.Answer.the-variants.{Silent, Dibit}
 use Rattle.sequence.specs.declared.walk.Walked.{Walked}
-use Rattle.sequence.specs.Observed.{cancelledOf, weightedOf, isUsable, dividedOf, seenWith, seenOf, agreedOf}
-use Rattle.sequence.specs.Walk.{stateBefore, dibitOf, answerWith, decidedOf, walkedOf}
+use Rattle.sequence.specs.Observed.{cancelledOf, weightedOf, isUsable, dividedOf, observedWith, observedOf, agreedOf}
+use Rattle.sequence.specs.Walk.{stateBeforeOf, dibitOf, withRecordOf, decidedOf, walkedOf}
 
 -- ---- the observation
 module _ (input : Complex32) (reliable : Bool) (t : Taps) (prior : ℕ) (power : Float) (rest v : Complex32) (a b : Bool)
     (p : power ≡ powerOf (t .main)) (r : rest ≡ cancelledOf input t prior) (w : v ≡ conjugateProductOf rest (t .main)) (u : a ≡ isUsable reliable power) (f : b ≡ bothFinite v) where
-  seen-is : seenWith (a && b) v power ≡ seenOf input reliable t prior
-  unfolding seenOf
-  seen-is =
-      ap (λ (z : Bool). seenWith z v power) (ap₂ _&&_ u f)
-      ∙ ap (λ (z : Complex32). seenWith (isUsable reliable power && bothFinite z) z power) (w ∙ ap (λ (z : Complex32). conjugateProductOf z (t .main)) r)
-      ∙ ap (λ (z : Float). seenWith (isUsable reliable z && bothFinite (weightedOf input t prior)) (weightedOf input t prior) z) p
+  observed-is : observedWith (a && b) v power ≡ observedOf input reliable t prior
+  unfolding observedOf
+  observed-is =
+      ap (λ (z : Bool). observedWith z v power) (ap₂ _&&_ u f)
+      ∙ ap (λ (z : Complex32). observedWith (isUsable reliable power && bothFinite z) z power) (w ∙ ap (λ (z : Complex32). conjugateProductOf z (t .main)) r)
+      ∙ ap (λ (z : Float). observedWith (isUsable reliable z && bothFinite (weightedOf input t prior)) (weightedOf input t prior) z) p
 
-  pub observed-yes : (z : Complex32) → (a && b) ≡ true → z ≡ dividedOf v power → _≡_ {A = Seen} (record { combined = Present v; equalized = Present z }) (seenOf input reliable t prior)
-  observed-yes z y d = go (a && b) y ∙ seen-is
+  pub observed-yes : (z : Complex32) → (a && b) ≡ true → z ≡ dividedOf v power → _≡_ {A = Seen} (record { combined = Present v; equalized = Present z }) (observedOf input reliable t prior)
+  observed-yes z y d = go (a && b) y ∙ observed-is
     where
-      go : (c : Bool) → c ≡ true → _≡_ {A = Seen} (record { combined = Present v; equalized = Present z }) (seenWith c v power)
-      go c e = unfold seenWith in rw (e, d)
+      go : (c : Bool) → c ≡ true → _≡_ {A = Seen} (record { combined = Present v; equalized = Present z }) (observedWith c v power)
+      go c e = unfold observedWith in rw (e, d)
 
-  pub observed-no : (a && b) ≡ false → _≡_ {A = Seen} (record { combined = Absent; equalized = Absent }) (seenOf input reliable t prior)
-  observed-no n = go (a && b) n ∙ seen-is
+  pub observed-no : (a && b) ≡ false → _≡_ {A = Seen} (record { combined = Absent; equalized = Absent }) (observedOf input reliable t prior)
+  observed-no n = go (a && b) n ∙ observed-is
     where
-      go : (c : Bool) → c ≡ false → _≡_ {A = Seen} (record { combined = Absent; equalized = Absent }) (seenWith c v power)
-      go c e = unfold seenWith in rw e
+      go : (c : Bool) → c ≡ false → _≡_ {A = Seen} (record { combined = Absent; equalized = Absent }) (observedWith c v power)
+      go c e = unfold observedWith in rw e
 
 -- ---- the answer
 pub dibit-three : (q : ℕ) → q < 4 → (q ≡ 0 → ⊥) → (q ≡ 1 → ⊥) → (q ≡ 2 → ⊥) → 2 ≡ dibitOf q
@@ -53,19 +53,19 @@ dibit-three (suc (suc (suc zero))) h a b c = refl
 dibit-three (suc (suc (suc (suc q)))) h a b c = absurd (omega arith)
 
 pub answer-is : (dibit : ℕ) (soft : Soft) (high low : Bool) (a b : Float) (x y : ℕ) → soft ≡ Recorded high low a b
-    → x ≡ agreedOf high (eqb (dibit / 2 % 2) 1) a → y ≡ agreedOf low (eqb (dibit % 2) 1) b → Dibit dibit x y ≡ answerWith dibit soft
+    → x ≡ agreedOf high (eqb (dibit / 2 % 2) 1) a → y ≡ agreedOf low (eqb (dibit % 2) 1) b → Dibit dibit x y ≡ withRecordOf dibit soft
 answer-is dibit soft high low a b x y e f g = rw (e, f, g)
 
 pub decided-is : (current : ℕ) (previous : Previous) (soft : Soft) (last dibit : ℕ) (r : Answer) → previous ≡ Symbol last
-    → dibit ≡ dibitOf ((current + 4 - last) % 4) → r ≡ answerWith dibit soft → r ≡ decidedOf current previous soft
-decided-is current previous soft last dibit r e f g = g ∙ ap (λ (z : ℕ). answerWith z soft) f ∙ sym (ap (λ (z : Previous). decidedOf current z soft) e)
+    → dibit ≡ dibitOf ((current + 4 - last) % 4) → r ≡ withRecordOf dibit soft → r ≡ decidedOf current previous soft
+decided-is current previous soft last dibit r e f g = g ∙ ap (λ (z : ℕ). withRecordOf z soft) f ∙ sym (ap (λ (z : Previous). decidedOf current z soft) e)
 
 module _ (parents : List ℕ) (newest filled best : ℕ) (previous : Previous) (oldest : Soft) where
   pub walk-silent : filled < 31 → _≡_ {A = Walked} (record { previous = previous; answer = Silent }) (walkedOf parents newest filled best previous oldest)
   unfolding walkedOf
   walk-silent h = rw (is-true (ltb filled 31) (lt→ltb filled 31 h))
 
-  pub walk-full : (state : ℕ) (r : Answer) → 31 ≤ filled → state ≡ stateBefore parents newest best → r ≡ decidedOf (state % 4) previous oldest
+  pub walk-full : (state : ℕ) (r : Answer) → 31 ≤ filled → state ≡ stateBeforeOf parents newest best → r ≡ decidedOf (state % 4) previous oldest
       → _≡_ {A = Walked} (record { previous = Symbol (state % 4); answer = r }) (walkedOf parents newest filled best previous oldest)
   unfolding walkedOf
   walk-full state r h e f = rw (f, e, is-false (ltb filled 31) (not-T (ltb filled 31) (λ t. let l = ltb→lt filled 31 t in omega arith)))

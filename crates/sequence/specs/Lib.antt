@@ -1,10 +1,15 @@
 pub mod Observed
 pub mod Walk
 pub mod Sequence
+pub mod Skeleton
 pub mod Ranges
-pub mod Detector
+pub mod Admitted
+pub mod Lends
 pub mod Laws
+pub mod AdmittedLaws
 pub mod Steps
 pub mod History
 pub mod Theorems
 pub mod Idle
+pub mod Tracked
+pub mod TrackedLaws

@@ -1,4 +1,4 @@
--- What the detector makes of an input: the observation left by the best survivor, and the step's soft record. Document 01's detector. Definitions only.
+-- What the detector makes of an input: the observation left by the best survivor, and the step's soft record. Definitions only.
 use Prim.Native.Nat.{ℕ, _+_, _/_, _%_}
 use mathlib.Core.Bool.{Bool, cond, Bool·beq, _&&_}
 use mathlib.Core.List.{List}
@@ -17,6 +17,12 @@ use Rattle.sequence.specs.declared.soft.Soft.{Soft}
 use Rattle.sequence.specs.declared.soft.Soft.the-variants.{Unrecorded, Recorded}
 use Rattle.sequence.specs.declared.soft.Slot.{Slot}
 
+abbrev pub zero32 : Float
+zero32 = ofBits binary32 0
+
+abbrev pub one32 : Float
+one32 = ofBits binary32 0x3f800000  -- 1
+
 -- ---- the observation
 
 -- the input less the products of the prior's later taps with its own symbols
@@ -28,48 +34,67 @@ cancelledOf input t p =
 abbrev pub weightedOf : Complex32 → Taps → ℕ → Complex32
 weightedOf input t p = conjugateProductOf (cancelledOf input t p) (t .main)
 
--- above 1e-6
+-- the main tap's least power: below it a quotient says nothing
+abbrev pub leastPower : Float
+leastPower = ofBits binary32 0x358637bd  -- 1e-6
+
 abbrev pub isUsable : Bool → Float → Bool
-isUsable reliable power = (reliable && isFinite power) && lt (ofBits binary32 897988541) power
+isUsable reliable power = (reliable && isFinite power) && lt leastPower power
 
 abbrev pub dividedOf : Complex32 → Float → Complex32
 dividedOf z by = record { real = div binary32 (z .real) by; imaginary = div binary32 (z .imaginary) by }
 
 -- the value v and v over the main tap's power, where both are of use
-unfoldable pub seenWith : Bool → Complex32 → Float → Seen
-seenWith useful v power = cond useful (record { combined = Present v; equalized = Present (dividedOf v power) }) (record { combined = Absent; equalized = Absent })
+unfoldable pub observedWith : Bool → Complex32 → Float → Seen
+observedWith useful v power = cond useful (record { combined = Present v; equalized = Present (dividedOf v power) }) (record { combined = Absent; equalized = Absent })
 
-unfoldable pub seenOf : Complex32 → Bool → Taps → ℕ → Seen
-seenOf input reliable t p = seenWith (isUsable reliable (powerOf (t .main)) && bothFinite (weightedOf input t p)) (weightedOf input t p) (powerOf (t .main))
+unfoldable pub observedOf : Complex32 → Bool → Taps → ℕ → Seen
+observedOf input reliable t p = observedWith (isUsable reliable (powerOf (t .main)) && bothFinite (weightedOf input t p)) (weightedOf input t p) (powerOf (t .main))
 
 -- ---- the noise
 
+-- how fast the noise follows: over some 50 symbols
+abbrev pub noiseStep : Float
+noiseStep = ofBits binary32 0x3ca3d70a  -- 0.02
+
+-- what one residual counts for at most
+abbrev pub mostResidual : Float
+mostResidual = ofBits binary32 0x40800000  -- 4
+
 -- noise + 0.02 (min(residual, 4) - noise)
-unfoldable pub noiseAfter : Float → Float → Bool → Float
-noiseAfter noise residual reliable =
-    cond (reliable && isFinite residual) (add binary32 noise (mul binary32 (ofBits binary32 1017370378) (sub binary32 (minOf residual (ofBits binary32 1082130432)) noise))) noise
+unfoldable pub noiseAfterOf : Float → Float → Bool → Float
+noiseAfterOf noise residual reliable =
+    cond (reliable && isFinite residual) (add binary32 noise (mul binary32 noiseStep (sub binary32 (minOf residual mostResidual) noise))) noise
 
 -- ---- the soft record
 
 abbrev pub sizeOf : Complex32 → Float
 sizeOf z = hypotenuseOf (z .real) (z .imaginary)
 
-abbrev pub turnedOf : Complex32 → Complex32
-turnedOf z = record { real = mul binary32 level (sub binary32 (z .real) (z .imaginary)); imaginary = mul binary32 level (add binary32 (z .real) (z .imaginary)) }
+-- turned by pi / 4
+abbrev pub eighthTurnedOf : Complex32 → Complex32
+eighthTurnedOf z = record { real = mul binary32 level (sub binary32 (z .real) (z .imaginary)); imaginary = mul binary32 level (add binary32 (z .real) (z .imaginary)) }
+
+-- what keeps the divisor from 0: the least noise, and what is added last
+abbrev pub leastNoise : Float
+leastNoise = ofBits binary32 0x38d1b717  -- 1e-4
+
+abbrev pub leastDivisor : Float
+leastDivisor = ofBits binary32 0x2b8cbccc  -- 1e-12
 
 -- 1 / ((size + size) max(noise, 1e-4) + 1e-12)
 unfoldable pub scaleOf : Complex32 → Complex32 → Float → Float
 scaleOf now before noise =
-    div binary32 (ofBits binary32 1065353216) (add binary32 (mul binary32 (add binary32 (sizeOf now) (sizeOf before)) (maxOf noise (ofBits binary32 953267991))) (ofBits binary32 730643660))
+    div binary32 one32 (add binary32 (mul binary32 (add binary32 (sizeOf now) (sizeOf before)) (maxOf noise leastNoise)) leastDivisor)
 
 -- the higher bit and its reliability come of the imaginary part, the lower of the real part
 unfoldable pub recordedOf : Complex32 → Complex32 → Float → Soft
 recordedOf now before noise =
     Recorded
-    (lt (turnedOf (conjugateProductOf now before) .imaginary) (ofBits binary32 0))
-    (lt (turnedOf (conjugateProductOf now before) .real) (ofBits binary32 0))
-    (mul binary32 (absOf (turnedOf (conjugateProductOf now before) .imaginary)) (scaleOf now before noise))
-    (mul binary32 (absOf (turnedOf (conjugateProductOf now before) .real)) (scaleOf now before noise))
+    (lt (eighthTurnedOf (conjugateProductOf now before) .imaginary) zero32)
+    (lt (eighthTurnedOf (conjugateProductOf now before) .real) zero32)
+    (mul binary32 (absOf (eighthTurnedOf (conjugateProductOf now before) .imaginary)) (scaleOf now before noise))
+    (mul binary32 (absOf (eighthTurnedOf (conjugateProductOf now before) .real)) (scaleOf now before noise))
 
 abbrev pub recordOf : Observation → Observation → Float → Soft
 recordOf Absent before noise = Unrecorded
@@ -87,9 +112,16 @@ recordBefore slots write = getD slots ((write + 1) % 32) (slotOf Unrecorded) .so
 
 -- ---- reliabilities
 
+-- a reliability of 8 and more fills a byte
+abbrev pub reliabilityScale : Float
+reliabilityScale = ofBits binary32 0x42000000  -- 32
+
+abbrev pub mostByte : Float
+mostByte = ofBits binary32 0x437f0000  -- 255
+
 -- times 32, clamped to 0..255 and cast
 unfoldable pub byteOf : Float → ℕ
-byteOf r = toUnsigned 8 (clampOf (mul binary32 r (ofBits binary32 1107296256)) (ofBits binary32 0) (ofBits binary32 1132396544))
+byteOf r = toUnsigned 8 (clampOf (mul binary32 r reliabilityScale) zero32 mostByte)
 
 abbrev pub agreedOf : Bool → Bool → Float → ℕ
 agreedOf negative decided r = cond (Bool·beq negative decided) (byteOf r) 0

@@ -15,7 +15,7 @@ use Rattle.laws.specs.Places.{length-upto, turns-keep, laid, laid-at, laid-off,
 use Rattle.laws.specs.Ring.{lt-or-ge}
 use Rattle.complex.specs.declared.Complex32.{Complex32}
 use Rattle.tracker.specs.declared.channel.Taps.{Taps}
-use Rattle.tracker.specs.Tracker.{Planes, pointAt, tapsOf, laidOut, followedOf, Parents}
+use Rattle.tracker.specs.Tracker.{Planes, pointAt, tapsOf, Parents}
 use Rattle.trellis.specs.Trellis.{Advance, advancedOf}
 use Rattle.trellis.specs.Laws.{arrived-parents}
 use Rattle.sequence.specs.declared.combine.Seen.{Seen}
@@ -26,10 +26,10 @@ use Rattle.sequence.specs.declared.walk.Answer.the-variants.{Silent}
 use Rattle.sequence.specs.declared.walk.Walked.{Walked}
 use Rattle.sequence.specs.declared.step.DetectorPlace.{DetectorPlace}
 use Rattle.sequence.specs.declared.step.Detected.{Detected}
-use Rattle.sequence.specs.Observed.{seenOf}
-use Rattle.sequence.specs.Walk.{storedOf, stateBefore, Table, Earlier, decidedOf, walkedOf}
-use Rattle.sequence.specs.Sequence.{oneMore, reportedOf, Run, detectedWith, detectedOf}
-use Rattle.sequence.specs.Ranges.{Ranged}
+use Rattle.sequence.specs.Observed.{observedOf}
+use Rattle.sequence.specs.Walk.{storedOf, stateBeforeOf, Table, Earlier, decidedOf, walkedOf}
+use Rattle.sequence.specs.Sequence.{oneMoreOf, reportedOf, Stepped, steppedWith, steppedOf}
+use Rattle.sequence.specs.Ranges.{Ranged, Kept}
 
 -- ---- a test of two numbers
 module _ {A : Type 0} (a b : ℕ) (x y : A) where
@@ -89,50 +89,47 @@ walked-earlier : (parents : List ℕ) (newest filled best : ℕ) (previous : Pre
 unfolding walkedOf
 walked-earlier parents newest filled best previous oldest h = go (ltb filled 31)
   where
-    go : (b : Bool) → Earlier ((cond {A = Walked} b (record { previous = previous; answer = Silent }) (record { previous = Symbol (stateBefore parents newest best % 4); answer = decidedOf (stateBefore parents newest best % 4) previous oldest })) .previous)
+    go : (b : Bool) → Earlier ((cond {A = Walked} b (record { previous = previous; answer = Silent }) (record { previous = Symbol (stateBeforeOf parents newest best % 4); answer = decidedOf (stateBeforeOf parents newest best % 4) previous oldest })) .previous)
     go true = h
     go false = omega arith
 
-more-most : (filled : ℕ) → oneMore filled ≤ 32
+more-most : (filled : ℕ) → oneMoreOf filled ≤ 32
 more-most filled = ⊎-elim (λ l. subst (λ (k : ℕ). k ≤ 32) (below-is filled 32 (filled + 1) 32 l) (omega arith)) (λ g. subst (λ (k : ℕ). k ≤ 32) (above-is filled 32 (filled + 1) 32 g) (omega arith)) (lt-or-ge filled 32)
 
-pub detected-ranged : (d : DetectorPlace) (input : Complex32) (reliable : Bool) (oldest : Soft) (c : Planes) (costs : List Float) (parents : List ℕ)
-    → Ranged d (c .real) (c .imaginary) costs parents
-    → Ranged (detectedOf d input reliable oldest c costs parents .detected .place) (detectedOf d input reliable oldest c costs parents .channels .real) (detectedOf d input reliable oldest c costs parents .channels .imaginary)
-    (detectedOf d input reliable oldest c costs parents .costs) (detectedOf d input reliable oldest c costs parents .parents)
-unfolding detectedOf detectedWith reportedOf advancedOf followedOf laidOut
-detected-ranged d input reliable oldest c costs parents h = record {
-  write = omega arith;
-  filled = more-most (d .filled);
-  earlier = walked-earlier _ (d .write) (d .filled) _ (d .previous) oldest (h .earlier);
-  table = stored-table parents (d .write) _ (h .write) (h .parents-size) (h .table) (arrived-parents c costs input reliable);
-  real-size = length-upto _ 256;
-  imaginary-size = length-upto _ 256;
-  costs-size = length-upto _ 64;
-  parents-size = stored-size parents (d .write) _ (h .write) (h .parents-size);
-}
+pub stepped-kept : (d : DetectorPlace) (input : Complex32) (reliable : Bool) (oldest : Soft) (c : Planes) (costs : List Float) (parents : List ℕ)
+    → Ranged d costs parents → Kept (steppedOf d input reliable oldest c costs parents)
+unfolding steppedOf steppedWith reportedOf advancedOf
+stepped-kept d input reliable oldest c costs parents h = (
+  record {
+    place = record {
+      write = omega arith;
+      filled = more-most (d .filled);
+      earlier = walked-earlier _ (d .write) (d .filled) _ (d .previous) oldest (h .place .earlier);
+    };
+    table = stored-table parents (d .write) _ (h .place .write) (h .parents-size) (h .table) (arrived-parents c costs input reliable);
+    costs-size = length-upto _ 64;
+    parents-size = stored-size parents (d .write) _ (h .place .write) (h .parents-size);
+  },
+  arrived-parents c costs input reliable,
+)
 
 -- what the walk back asks of the parents, once the row is stored
 pub asked-table : (parents : List ℕ) (write : ℕ) (row stored : List ℕ) → stored ≡ storedOf parents write row → write < 32 → length parents ≡ 2048 → Table parents → Parents row → Table stored
 asked-table parents write row stored e w n t p = subst Table (sym e) (stored-table parents write row w n t p)
 
 -- ---- the step, from its parts
-abbrev RunRanged : Run → Type 0
-RunRanged r = Ranged (r .detected .place) (r .channels .real) (r .channels .imaginary) (r .costs) (r .parents)
-
 pub step-meets : (d : DetectorPlace) (input : Complex32) (reliable : Bool) (oldest : Soft) (c : Planes) (costs : List Float) (parents : List ℕ)
-    (best : ℕ) (after : List Float) (row stored : List ℕ) (guesses next : Planes) (t : Taps) (seen : Seen) (walked : Walked) (r : Detected)
-    → _≡_ {A = Advance} (record { best = best; costs = after; parents = row; predictions = guesses }) (advancedOf c costs input reliable)
+    (best : ℕ) (after : List Float) (row stored : List ℕ) (predictions : Planes) (t : Taps) (seen : Seen) (walked : Walked) (r : Detected)
+    → _≡_ {A = Advance} (record { best = best; costs = after; parents = row; predictions = predictions }) (advancedOf c costs input reliable)
     → t ≡ tapsOf c (getD row best 0)
-    → seen ≡ seenOf input reliable t (getD row best 0)
-    → next ≡ followedOf c row guesses input reliable
+    → seen ≡ observedOf input reliable t (getD row best 0)
     → stored ≡ storedOf parents (d .write) row
     → walked ≡ walkedOf stored (d .write) (d .filled) best (d .previous) oldest
-    → r ≡ reportedOf d walked seen input (pointAt guesses best) reliable
-    → Ranged d (c .real) (c .imaginary) costs parents
-    → (_≡_ {A = Run} (record { detected = r; channels = next; costs = after; parents = stored }) (detectedOf d input reliable oldest c costs parents))
-    × Ranged (r .place) (next .real) (next .imaginary) after stored
-step-meets d input reliable oldest c costs parents best after row stored guesses next t seen walked r ea et es en ep ew er h = (same, subst RunRanged (sym same) (detected-ranged d input reliable oldest c costs parents h))
+    → r ≡ reportedOf d walked seen input (pointAt predictions best) reliable
+    → Ranged d costs parents
+    → (_≡_ {A = Stepped} (record { detected = r; costs = after; parents = stored; row = row; predictions = predictions }) (steppedOf d input reliable oldest c costs parents))
+    × (Ranged (r .place) after stored × Parents row)
+step-meets d input reliable oldest c costs parents best after row stored predictions t seen walked r ea et es ep ew er h = (same, subst Kept (sym same) (stepped-kept d input reliable oldest c costs parents h))
   where
-    same : _≡_ {A = Run} (record { detected = r; channels = next; costs = after; parents = stored }) (detectedOf d input reliable oldest c costs parents)
-    same = unfold detectedOf in unfold detectedWith in rw (er, ew, es, et, en, ep) (ap (detectedWith d input reliable oldest c parents) ea)
+    same : _≡_ {A = Stepped} (record { detected = r; costs = after; parents = stored; row = row; predictions = predictions }) (steppedOf d input reliable oldest c costs parents)
+    same = unfold steppedOf in unfold steppedWith in rw (er, ew, es, et, ep) (ap (steppedWith d input reliable oldest c parents) ea)

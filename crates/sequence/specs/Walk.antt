@@ -1,4 +1,4 @@
--- The history of 32 steps and the walk back: which parents are read, the dibit decided, and its reliabilities. Document 01's detector. Definitions only.
+-- The history of 32 steps and the walk back: which parents are read, the dibit decided, and its reliabilities. Definitions only.
 use Prim.Native.Nat.{ℕ, _+_, _-_, _*_, _/_, _%_, _<_}
 use mathlib.Core.Bool.{cond}
 use mathlib.Core.List.{List, [], _∷_}
@@ -26,8 +26,8 @@ abbrev pub parentBefore : List ℕ → ℕ → ℕ → ℕ → ℕ
 parentBefore parents newest k s = getD parents (64 * ((newest + 32 - k) % 32) + s) 0
 
 -- 31 parents back from the state `best` of the step stored at `newest`
-unfoldable pub stateBefore : List ℕ → ℕ → ℕ → ℕ
-stateBefore parents newest best = turns (parentBefore parents newest) 31 best
+unfoldable pub stateBeforeOf : List ℕ → ℕ → ℕ → ℕ
+stateBeforeOf parents newest best = turns (parentBefore parents newest) 31 best
 
 -- every stored parent is a state
 pub record Table (parents : List ℕ) : Type 0 where
@@ -45,18 +45,18 @@ abbrev pub dibitOf : ℕ → ℕ
 dibitOf quarters = getD (0 ∷ 1 ∷ 3 ∷ 2 ∷ []) quarters 0
 
 -- the reliabilities of the higher and of the lower bit, each 0 where its sign is not the decided bit
-abbrev pub answerWith : ℕ → Soft → Answer
-answerWith dibit Unrecorded = Dibit dibit 0 0
-answerWith dibit (Recorded high low a b) = Dibit dibit (agreedOf high (eqb (dibit / 2 % 2) 1) a) (agreedOf low (eqb (dibit % 2) 1) b)
+abbrev pub withRecordOf : ℕ → Soft → Answer
+withRecordOf dibit Unrecorded = Dibit dibit 0 0
+withRecordOf dibit (Recorded high low a b) = Dibit dibit (agreedOf high (eqb (dibit / 2 % 2) 1) a) (agreedOf low (eqb (dibit % 2) 1) b)
 
 -- the dibit is the difference of two symbols; the first has none before it
 abbrev pub decidedOf : ℕ → Previous → Soft → Answer
 decidedOf current Unknown soft = Dibit 0 0 0
-decidedOf current (Symbol last) soft = answerWith (dibitOf ((current + 4 - last) % 4)) soft
+decidedOf current (Symbol last) soft = withRecordOf (dibitOf ((current + 4 - last) % 4)) soft
 
 -- silent until 32 steps are held
 unfoldable pub walkedOf : List ℕ → ℕ → ℕ → ℕ → Previous → Soft → Walked
 walkedOf parents newest filled best previous oldest =
     cond (ltb filled 31)
     (record { previous = previous; answer = Silent })
-    (record { previous = Symbol (stateBefore parents newest best % 4); answer = decidedOf (stateBefore parents newest best % 4) previous oldest })
+    (record { previous = Symbol (stateBeforeOf parents newest best % 4); answer = decidedOf (stateBeforeOf parents newest best % 4) previous oldest })

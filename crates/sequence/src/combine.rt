@@ -1,7 +1,7 @@
 // What is left of the input once the best survivor's delayed paths are taken off.
 ghost use mathlib.Core.Path.{_≡_};
 ghost use Prim.Native.Nat.{_<_};
-ghost use Rattle.sequence.specs.Observed.{cancelledOf, isUsable, dividedOf, weightedOf, seenOf};
+ghost use Rattle.sequence.specs.Observed.{cancelledOf, isUsable, dividedOf, weightedOf, observedOf};
 use complex::Complex32;
 use complex::Observation;
 use complex::is_finite;
@@ -51,7 +51,7 @@ fn divided(z: Complex32, by: f32) -> Complex32
 // Nothing where the input is not reliable, or the main tap's power or the result is no use.
 pub fn observed(input: Complex32, reliable: bool, t: Taps, prior: u32) -> Seen
     requires { ⌜ prior < 64 ⌝ }
-    ensures { λ r. ⌜ r ≡ seenOf input reliable t prior ⌝ }
+    ensures { λ r. ⌜ r ≡ observedOf input reliable t prior ⌝ }
 {
     let main = t.main;
     let p = power(main);

@@ -2,7 +2,8 @@
 ghost use mathlib.Core.Path.{_≡_};
 ghost use mathlib.Core.Bool.{Bool·beq};
 ghost use Prim.Native.Nat.{_<_};
-ghost use Rattle.sequence.specs.Observed.{noiseAfter, sizeOf, turnedOf, scaleOf, recordedOf, recordOf, byteOf, agreedOf, slotOf, recordBefore};
+ghost use Rattle.sequence.specs.Observed.{noiseAfterOf, sizeOf, eighthTurnedOf, scaleOf, recordedOf, recordOf, byteOf, agreedOf, slotOf, recordBefore};
+use super::STEPS;
 use complex::Complex32;
 use complex::Observation;
 use complex::multiplied_conjugate;
@@ -26,7 +27,7 @@ pub struct Slot {
 
 // The records of 32 steps.
 pub struct Records {
-    pub slots: [Slot; 32],
+    pub slots: [Slot; STEPS],
 }
 
 // The record of 31 steps before the step that is stored at `write`: the oldest of the ring.
@@ -41,7 +42,7 @@ pub fn oldest(records: Records, write: usize) -> Soft
 
 // The residual's power, smoothed; it normalizes the reliabilities.
 pub fn noise_after(noise: f32, residual: f32, reliable: bool) -> f32
-    ensures { λ r. ⌜ r ≡ noiseAfter noise residual reliable ⌝ }
+    ensures { λ r. ⌜ r ≡ noiseAfterOf noise residual reliable ⌝ }
 {
     if reliable & is_finite32(residual) {
         noise + 0.02 * (min32(residual, 4.0) - noise)
@@ -57,8 +58,8 @@ fn size(z: Complex32) -> f32
 }
 
 // Turned by pi / 4: then the dibit's bits are the signs, the higher that of the imaginary part.
-fn turned(z: Complex32) -> Complex32
-    ensures { λ r. ⌜ r ≡ turnedOf z ⌝ }
+fn eighth_turned(z: Complex32) -> Complex32
+    ensures { λ r. ⌜ r ≡ eighthTurnedOf z ⌝ }
 {
     Complex32 {
         real: 0.70710677 * (z.real - z.imaginary),
@@ -76,7 +77,7 @@ fn scale(now: Complex32, before: Complex32, noise: f32) -> f32
 fn recorded(now: Complex32, before: Complex32, noise: f32) -> Soft
     ensures { λ r. ⌜ r ≡ recordedOf now before noise ⌝ }
 {
-    let product = turned(multiplied_conjugate(now, before));
+    let product = eighth_turned(multiplied_conjugate(now, before));
     let k = scale(now, before, noise);
     let high = abs32(product.imaginary) * k;
     let low = abs32(product.real) * k;

@@ -1,8 +1,13 @@
-// One step of the detector.
+// One step of the detector with the channels that it is given.
 ghost use mathlib.Core.Path.{_≡_};
 ghost use Prim.Native.Nat.{_<_};
-ghost use Rattle.sequence.specs.Sequence.{freshPlace, freshTap, freshReal, freshRecords, phaseBetween, powerTold, oneMore, reportedOf, Run, detectedOf};
-ghost use Rattle.sequence.specs.Ranges.{Ranged};
+ghost use Rattle.sequence.specs.Sequence.{freshPlace, freshTap, freshReal, freshRecords, phaseBetweenOf, powerToldOf, oneMoreOf, reportedOf, steppedOf};
+ghost use Rattle.sequence.specs.Ranges.{Ranged, Roomy, Kept};
+ghost use Rattle.sequence.specs.Lends.{leaves};
+use super::CHANNELS;
+use super::PARENTS;
+use super::STATES;
+use super::STEPS;
 use super::combine::Seen;
 use super::combine::observed;
 use super::soft::Records;
@@ -22,7 +27,6 @@ use complex::power;
 use complex::subtracted;
 use routines::angle::arctangent;
 use tracker::channel::taps_at;
-use tracker::follow::follow;
 use trellis::step::advance;
 
 // What the detector keeps beside its planes: the row for the next step's parents and record, how
@@ -63,16 +67,16 @@ pub fn fresh() -> DetectorPlace
 fn fresh_tap(i: usize) -> f32
     ensures { λ r. ⌜ r ≡ freshTap i ⌝ }
 {
-    if i < 64 { 1.0 } else { 0.0 }
+    if i < STATES { 1.0 } else { 0.0 }
 }
 
 // The real plane of fresh channels: the main tap is 1.
-pub fn fresh_channels() -> [f32; 256]
+pub fn fresh_channels() -> [f32; CHANNELS]
     ensures { λ r. ⌜ r ≡ freshReal ⌝ }
 {
-    let mut h = [0.0; 256];
+    let mut h = [0.0; CHANNELS];
     let mut i = 0;
-    while i < 256 {
+    while i < CHANNELS {
         h[i] = fresh_tap(i);
         i += 1;
     }
@@ -85,16 +89,16 @@ pub fn fresh_records() -> Records
     Records {
         slots: [Slot {
             soft: Soft::Unrecorded,
-        }; 32],
+        }; STEPS],
     }
 }
 
 // The angle from the prediction to the input, and 0 where the input is not reliable.
-fn phase_between(input: Complex32, guess: Complex32, reliable: bool) -> f32
-    ensures { λ r. ⌜ r ≡ phaseBetween input guess reliable ⌝ }
+fn phase_between(input: Complex32, prediction: Complex32, reliable: bool) -> f32
+    ensures { λ r. ⌜ r ≡ phaseBetweenOf input prediction reliable ⌝ }
 {
     if reliable {
-        let turn = multiplied_conjugate(input, guess);
+        let turn = multiplied_conjugate(input, prediction);
         arctangent(turn.imaginary, turn.real)
     } else {
         0.0
@@ -103,14 +107,14 @@ fn phase_between(input: Complex32, guess: Complex32, reliable: bool) -> f32
 
 // The carrier is told a power of 1 where the input is not reliable.
 fn power_told(power: f32, reliable: bool) -> f32
-    ensures { λ r. ⌜ r ≡ powerTold power reliable ⌝ }
+    ensures { λ r. ⌜ r ≡ powerToldOf power reliable ⌝ }
 {
     if reliable { power } else { 1.0 }
 }
 
 // Up to 32 steps are held.
 fn one_more(filled: usize) -> usize
-    ensures { λ r. ⌜ r ≡ oneMore filled ⌝ }
+    ensures { λ r. ⌜ r ≡ oneMoreOf filled ⌝ }
 {
     if filled < 32 { filled + 1 } else { 32 }
 }
@@ -121,18 +125,18 @@ fn reported(
     walked: Walked,
     seen: Seen,
     input: Complex32,
-    guess: Complex32,
+    prediction: Complex32,
     reliable: bool,
 ) -> Detected
     requires { ⌜ d .write < 32 ⌝ }
-    ensures { λ r. ⌜ r ≡ reportedOf d walked seen input guess reliable ⌝ }
+    ensures { λ r. ⌜ r ≡ reportedOf d walked seen input prediction reliable ⌝ }
 {
     let before = d.combined;
     let combined = seen.combined;
     let equalized = seen.equalized;
     let previous = walked.previous;
     let answer = walked.answer;
-    let residual = power(subtracted(input, guess));
+    let residual = power(subtracted(input, prediction));
     let noise = noise_after(d.noise, residual, reliable);
     let soft = record(combined, before, noise);
     let place = DetectorPlace {
@@ -147,59 +151,53 @@ fn reported(
         answer,
         soft,
         equalized,
-        phase: phase_between(input, guess, reliable),
+        phase: phase_between(input, prediction, reliable),
         power: power_told(residual, reliable),
     }
 }
 
-// One step. `oldest` is the record of 31 steps before; the caller puts the step's own in the slot
-// `write`.
+// One step with these channels, which it only reads: a tracker has made them, and follows afterwards
+// by what the step leaves in `row` and in the predictions, each state's parent and prediction.
+// `oldest` is the record of 31 steps before; the caller puts the step's own in the slot `write`.
 pub fn step(
     d: DetectorPlace,
     input: Complex32,
     reliable: bool,
     oldest: Soft,
-    channel_real: &mut [f32; 256],
-    channel_imaginary: &mut [f32; 256],
-    costs: &mut [f32; 64],
-    parents: &mut [u8; 2048],
+    channel_real: &[f32; CHANNELS],
+    channel_imaginary: &[f32; CHANNELS],
+    costs: &mut [f32; STATES],
+    parents: &mut [u8; PARENTS],
+    row: &mut [u8; STATES],
+    prediction_real: &mut [f32; STATES],
+    prediction_imaginary: &mut [f32; STATES],
 ) -> Detected
-    requires { ⌜ Ranged d (now «channel_real») (now «channel_imaginary») (now costs) (now parents) ⌝ }
-    ensures { λ r. ⌜ _≡_ {A = Run} (record { detected = r; channels = record { real = now («channel_real» .exit); imaginary = now («channel_imaginary» .exit) }; costs = now (costs .exit); parents = now (parents .exit) }) (detectedOf d input reliable oldest (record { real = now («channel_real» .entry); imaginary = now («channel_imaginary» .entry) }) (now (costs .entry)) (now (parents .entry))) ⌝ }
-    ensures kept { λ r. ⌜ Ranged (r .place) (now («channel_real» .exit)) (now («channel_imaginary» .exit)) (now (costs .exit)) (now (parents .exit)) ⌝ }
+    requires { ⌜ Ranged d (now costs) (now parents) ⌝ }
+    requires { ⌜ Roomy (now row) (now «prediction_real») (now «prediction_imaginary») ⌝ }
+    ensures { λ r. ⌜ leaves r costs parents row «prediction_real» «prediction_imaginary»
+        (λ held table after. (after ≡ steppedOf d input reliable oldest
+        (record { real = now («channel_real» .entry); imaginary = now («channel_imaginary» .entry) }) held table) × Kept after) ⌝ }
 {
-    let mut row = [0; 64];
-    let mut guess_real = [0.0; 64];
-    let mut guess_imaginary = [0.0; 64];
     let best = advance(
         channel_real,
         channel_imaginary,
         input,
         reliable,
         costs,
-        &mut row,
-        &mut guess_real,
-        &mut guess_imaginary,
+        row,
+        prediction_real,
+        prediction_imaginary,
     );
-    let guess = Complex32 {
-        real: guess_real[best],
-        imaginary: guess_imaginary[best],
+    let prediction = Complex32 {
+        real: prediction_real[best],
+        imaginary: prediction_imaginary[best],
     };
     let prior = row[best];
     let survivor = taps_at(channel_real, channel_imaginary, prior as usize);
     let seen = observed(input, reliable, survivor, prior as u32);
-    follow(
-        channel_real,
-        channel_imaginary,
-        &row,
-        &guess_real,
-        &guess_imaginary,
-        input,
-        reliable,
-    );
     let write = d.write;
     let previous = d.previous;
-    store(parents, write, &row);
+    store(parents, write, row);
     let walked = walk(parents, write, d.filled, best, previous, oldest);
-    reported(d, walked, seen, input, guess, reliable)
+    reported(d, walked, seen, input, prediction, reliable)
 }

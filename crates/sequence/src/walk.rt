@@ -3,7 +3,9 @@ ghost use mathlib.Core.Path.{_≡_};
 ghost use Prim.Native.Nat.{_<_, _%_};
 ghost use lib.ListN.{length};
 ghost use Rattle.tracker.specs.Tracker.{Parents};
-ghost use Rattle.sequence.specs.Walk.{storedOf, stateBefore, Table, Earlier, dibitOf, answerWith, decidedOf, walkedOf};
+ghost use Rattle.sequence.specs.Walk.{storedOf, stateBeforeOf, Table, Earlier, dibitOf, withRecordOf, decidedOf, walkedOf};
+use super::PARENTS;
+use super::STATES;
 use super::soft::Soft;
 use super::soft::agreed;
 
@@ -25,7 +27,7 @@ pub struct Walked {
 }
 
 // A step's parents, put in their row.
-pub fn store(parents: &mut [u8; 2048], write: usize, row: &[u8; 64])
+pub fn store(parents: &mut [u8; PARENTS], write: usize, row: &[u8; STATES])
     requires { ⌜ (write < 32) × (length (now parents) ≡ 2048) ⌝ }
     ensures { λ r. ⌜ now (parents .exit) ≡ storedOf (now (parents .entry)) write (now (row .entry)) ⌝ }
 {
@@ -38,9 +40,9 @@ pub fn store(parents: &mut [u8; 2048], write: usize, row: &[u8; 64])
 }
 
 // The state of 31 steps before the one stored at `newest`, from that step's state `best`.
-fn back(parents: &[u8; 2048], newest: usize, best: usize) -> usize
+fn state_before(parents: &[u8; PARENTS], newest: usize, best: usize) -> usize
     requires { ⌜ (newest < 32) × (best < 64) × Table (now parents) ⌝ }
-    ensures { λ r. ⌜ r ≡ stateBefore (now (parents .entry)) newest best ⌝ }
+    ensures { λ r. ⌜ r ≡ stateBeforeOf (now (parents .entry)) newest best ⌝ }
 {
     let mut state = best;
     let mut k = 0;
@@ -70,7 +72,7 @@ fn dibit(quarters: usize) -> u8
 
 // A dibit with the reliabilities that its step's record gives.
 fn with_record(dibit: u8, soft: Soft) -> Answer
-    ensures { λ r. ⌜ r ≡ answerWith dibit soft ⌝ }
+    ensures { λ r. ⌜ r ≡ withRecordOf dibit soft ⌝ }
 {
     let Soft::Recorded(high, low, a, b) = soft else {
         return Answer::Dibit(dibit, 0, 0);
@@ -95,7 +97,7 @@ fn decided(current: usize, previous: Previous, soft: Soft) -> Answer
 
 // The answer of the step stored at `newest`, where `filled` steps before it are held.
 pub fn walk(
-    parents: &[u8; 2048],
+    parents: &[u8; PARENTS],
     newest: usize,
     filled: usize,
     best: usize,
@@ -111,7 +113,7 @@ pub fn walk(
             answer: Answer::Silent,
         };
     }
-    let current = back(parents, newest, best) % 4;
+    let current = state_before(parents, newest, best) % 4;
     Walked {
         previous: Previous::Symbol(current),
         answer: decided(current, previous, oldest),

@@ -1,4 +1,4 @@
--- `carrier::corrected` meets its contract. Assumes nothing.
+-- `corrected` meets its contract: the sample turned back by sine and cosine of the rotation. Assumes nothing.
 use Rattle.carrier.specs.Carrier.{correctedOf}
 use borrow.Author.Needs.{needs}
 use Rattle.carrier.proofs.corrected.Statement.{statement}

@@ -1,5 +1,5 @@
--- `carrier::error_after` meets its contract. Assumes nothing.
-use Rattle.carrier.specs.Carrier.{errorOf}
+-- `error_after` meets its contract: the widened root of the power, smoothed. Assumes nothing.
+use Rattle.carrier.specs.Carrier.{errorAfterOf}
 use borrow.Author.Needs.{needs}
 use Rattle.carrier.proofs.error_after.Statement.{statement}
 use Rattle.carrier.proofs.error_after.Tie as tie
@@ -11,7 +11,7 @@ widen-requires : tie.Need-widen-requires
 widen-requires c κs = search needs
 
 returns : tie.Need-returns
-unfolding errorOf
+unfolding errorAfterOf
 returns c = cc
 
 pub error-after-spec : {M : Type 1} → statement M

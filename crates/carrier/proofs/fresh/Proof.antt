@@ -1,4 +1,4 @@
--- `carrier::fresh` meets its contract. Assumes nothing.
+-- `fresh` meets its contract: a loop of zeros around a fresh detector. Assumes nothing.
 use borrow.Author.Needs.{needs}
 use Rattle.carrier.proofs.fresh.Statement.{statement}
 use Rattle.carrier.proofs.fresh.Tie as tie

@@ -1,5 +1,5 @@
--- `carrier::phase_after` meets its contract. Assumes nothing.
-use Rattle.carrier.specs.Carrier.{phaseOf}
+-- `phase_after` meets its contract: moved, and unwound. Assumes nothing.
+use Rattle.carrier.specs.Carrier.{phaseAfterOf}
 use borrow.Author.Needs.{needs}
 use Rattle.carrier.proofs.phase_after.Statement.{statement}
 use Rattle.carrier.proofs.phase_after.Tie as tie
@@ -8,7 +8,7 @@ unwound-requires : tie.Need-unwound-requires
 unwound-requires c κs = search needs
 
 returns : tie.Need-returns
-unfolding phaseOf
+unfolding phaseAfterOf
 returns c = cc
 
 pub phase-after-spec : {M : Type 1} → statement M

@@ -1,4 +1,4 @@
--- `carrier::phase_error` meets its contract. Assumes nothing.
+-- `phase_error` meets its contract: clamped in f32, then widened. Assumes nothing.
 use Rattle.carrier.specs.Carrier.{phaseErrorOf}
 use borrow.Author.Needs.{needs}
 use Rattle.carrier.proofs.phase_error.Statement.{statement}

@@ -1,4 +1,4 @@
--- `carrier::rotation` meets its contract. Assumes nothing.
+-- `rotation` meets its contract: the phase and the alternation's eighths of a turn. Assumes nothing.
 use mathlib.Core.Path.{refl}
 use Rattle.carrier.specs.Carrier.{rotationOf}
 use borrow.Author.Needs.{needs}

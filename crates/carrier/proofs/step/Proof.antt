@@ -1,5 +1,5 @@
--- `carrier::step` meets its contract. Assumes nothing.
-use Rattle.carrier.specs.Laws.{step-is, turned-below}
+-- `step` meets its contract: the corrected sample through the detector, then the loop by its phase and power. Assumes nothing.
+use Rattle.carrier.specs.Laws.{step-is, alternation-below}
 use borrow.Author.Needs.{needs}
 use Rattle.carrier.proofs.step.Statement.{statement}
 use Rattle.carrier.proofs.step.Tie as tie
@@ -8,13 +8,19 @@ corrected-requires : tie.Need-corrected-requires
 corrected-requires c κs = search needs
 
 step-requires : tie.Need-step-requires
-step-requires c κs = c .before .before .before .before .before .before .before .pre .detector
+step-requires c κs =
+    let given = c .before .before .before .before .before .before .before .pre in
+    given .detector
 
-turned-requires : tie.Need-turned-requires
-turned-requires c κs = c .before .before .before .before .before .before .before .before .pre .alternation
+loop-after-requires : tie.Need-loop-after-requires
+loop-after-requires c κs =
+    let given = c .before .before .before .before .before .before .before .before .pre in
+    given .alternation
 
 returns : tie.Need-returns
-returns c = (step-is _ _ _ _ _ _ _ _ _ _ (c .before .before .before .before .before .before .before .corrected .ensures) (c .before .before .step .ensures .0) (c .before .turned .ensures), record { alternation = turned-below _ _ _ _ _ (c .before .turned .ensures); detector = c .before .before .step .ensures .1 })
+returns c =
+    let corrected-is = c .before .before .before .before .before .before .before .corrected .ensures in
+    (step-is _ _ _ _ _ _ _ _ _ _ corrected-is (c .before .before .step .ensures .0) (c .before .loop-after .ensures), record { alternation = alternation-below _ _ _ _ _ (c .before .loop-after .ensures); detector = c .before .before .step .ensures .1 })
 
 pub step-spec : {M : Type 1} → statement M
-step-spec = tie.close (tie.spec corrected-requires step-requires turned-requires returns)
+step-spec = tie.close (tie.spec corrected-requires step-requires loop-after-requires returns)

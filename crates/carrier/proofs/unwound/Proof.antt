@@ -1,4 +1,4 @@
--- `carrier::unwound` meets its contract. Assumes nothing.
+-- `unwound` meets its contract: the nearest number of full turns taken off. Assumes nothing.
 use Rattle.carrier.specs.Carrier.{unwoundOf}
 use borrow.Author.Needs.{needs}
 use Rattle.carrier.proofs.unwound.Statement.{statement}

@@ -1,4 +1,4 @@
--- `decisions::decide` meets its contract. Assumes nothing.
+-- `decide` meets its contract: after i turns the first i symbols of the row are decided. Assumes nothing.
 use mathlib.Core.Path.{_≡_, refl}
 use Prim.Native.Nat.{_-_, _≤_}
 use native.Mathlib.Omega.{arith}
@@ -25,31 +25,54 @@ loop-holds : tie.Need-loop-holds Inv-loop μ-loop
 loop-holds c = (omega arith, refl, refl, row-start _ _ _ _)
 
 mul-t18 : tie.Need-mul-t18 Inv-loop μ-loop
-mul-t18 c = let a = c .loop-test in let b = c .before .before .before .before .pre .1 in search (needs, a, b)
+mul-t18 c =
+    let given = c .before .before .before .before .pre in
+    search (needs, c .loop-test, given .1)
 
 element-copy-out-t21 : tie.Need-element-copy-out-t21 Inv-loop μ-loop
-element-copy-out-t21 c = let a = c .loop-test in let b = c .before .before .before .before .pre .1 in search (needs, a, b)
+element-copy-out-t21 c =
+    let given = c .before .before .before .before .pre in
+    search (needs, c .loop-test, given .1)
 
 mul-t22 : tie.Need-mul-t22 Inv-loop μ-loop
-mul-t22 c = let a = c .before .loop-test in let b = c .before .before .before .before .before .pre .1 in search (needs, a, b)
+mul-t22 c =
+    let given = c .before .before .before .before .before .pre in
+    search (needs, c .before .loop-test, given .1)
 
 element-copy-out-t25 : tie.Need-element-copy-out-t25 Inv-loop μ-loop
-element-copy-out-t25 c = let a = c .before .loop-test in let b = c .before .before .before .before .before .pre .1 in search (needs, a, b)
+element-copy-out-t25 c =
+    let given = c .before .before .before .before .before .pre in
+    search (needs, c .before .loop-test, given .1)
 
 element-copy-out-link : tie.Need-element-copy-out-link Inv-loop μ-loop
-element-copy-out-link c = let a = c .before .before .loop-test in let b = c .before .before .before .before .before .before .pre .1 in search (needs, a, b)
+element-copy-out-link c =
+    let given = c .before .before .before .before .before .before .pre in
+    search (needs, c .before .before .loop-test, given .1)
 
 link-requires : tie.Need-link-requires Inv-loop μ-loop
-link-requires c κs = row-asks _ _ _ _ _ _ _ (c .before .before .before .before .before .before .before .before .before .before .before .before .before .before .before .pre .0) (c .before .before .before .before .before .before .before .before .before .before .before .before .loop .inv .3) (omega (arith, c .before .before .before .before .before .before .before .before .before .before .before .loop-test))
+link-requires c κs =
+    let given = c .before .before .before .before .before .before .before .before .before .before .before .before .before .before .before .pre in
+    let kept = c .before .before .before .before .before .before .before .before .before .before .before .before .loop .inv in
+    let more = c .before .before .before .before .before .before .before .before .before .before .before .loop-test in
+    row-asks _ _ _ _ _ _ _ (given .0) (kept .3) (omega (arith, more))
 
 add-i : tie.Need-add-i Inv-loop μ-loop
-add-i c = record { fits = omega (arith, c .before .before .before .before .before .before .before .before .before .before .before .before .before .before .before .before .loop-test, c .before .before .before .before .before .before .before .before .before .before .before .before .before .before .before .before .before .before .before .before .pre .1) }
+add-i c =
+    let more = c .before .before .before .before .before .before .before .before .before .before .before .before .before .before .before .before .loop-test in
+    let given = c .before .before .before .before .before .before .before .before .before .before .before .before .before .before .before .before .before .before .before .before .pre in
+    record { fits = omega (arith, more, given .1) }
 
 loop-less : tie.Need-loop-less Inv-loop μ-loop
-loop-less c = omega (arith, c .before .before .before .before .before .before .before .before .before .before .before .before .before .before .before .before .loop-test)
+loop-less c =
+    let more = c .before .before .before .before .before .before .before .before .before .before .before .before .before .before .before .before .loop-test in
+    omega (arith, more)
 
 loop-again : tie.Need-loop-again Inv-loop μ-loop
-loop-again c = (omega (arith, c .before .before .before .before .before .before .before .before .before .before .before .before .before .before .before .before .loop-test), omega (arith, c .before .before .before .dibits .given, c .before .before .before .before .before .before .before .before .before .before .before .before .before .before .before .before .before .loop .inv .1), omega (arith, c .before .reliabilities .given, c .before .before .before .before .before .before .before .before .before .before .before .before .before .before .before .before .before .loop .inv .2), row-step _ _ _ _ _ _ _ (c .before .before .before .before .link .ensures) (c .before .before .before .before .before .before .before .before .before .before .before .before .before .before .before .before .before .loop .inv .3))
+loop-again c =
+    let more = c .before .before .before .before .before .before .before .before .before .before .before .before .before .before .before .before .loop-test in
+    let kept = c .before .before .before .before .before .before .before .before .before .before .before .before .before .before .before .before .before .loop .inv in
+    let link-is = c .before .before .before .before .link .ensures in
+    (omega (arith, more), omega (arith, c .before .before .before .dibits .given, kept .1), omega (arith, c .before .reliabilities .given, kept .2), row-step _ _ _ _ _ _ _ link-is (kept .3))
 
 same-length : tie.Need-same-length Inv-loop μ-loop
 same-length c = search needs
@@ -58,7 +81,9 @@ same-length-2 : tie.Need-same-length-2 Inv-loop μ-loop
 same-length-2 c = search needs
 
 returns : tie.Need-returns Inv-loop μ-loop
-returns c = row-end _ _ _ _ _ _ _ (c .before .before .before .before .pre .0) (c .before .loop .inv .3) (c .before .loop .inv .0) (omega (arith, c .loop-test))
+returns c =
+    let given = c .before .before .before .before .pre in
+    row-end _ _ _ _ _ _ _ (given .0) (c .before .loop .inv .3) (c .before .loop .inv .0) (omega (arith, c .loop-test))
 
 pub decide-spec : {M : Type 1} → statement M
 decide-spec =

@@ -1,4 +1,4 @@
--- `labels::counted` meets its contract. Assumes nothing.
+-- `counted` meets its contract: one more for a dibit that counts, and as it was else. Assumes nothing.
 use Rattle.labels.specs.LabelLaws.{count-dibit, count-kept}
 use borrow.Author.Needs.{needs}
 use Rattle.labels.proofs.counted.Statement.{statement}

@@ -1,4 +1,4 @@
--- `labels::is_conjugated` meets its contract. Assumes nothing.
+-- `is_conjugated` meets its contract: profile 1 and no other, by its bits. Assumes nothing.
 use Rattle.labels.specs.LabelLaws.{profile-one, profile-other}
 use Rattle.labels.proofs.is_conjugated.Statement.{statement}
 use Rattle.labels.proofs.is_conjugated.Tie as tie

@@ -1,4 +1,4 @@
--- `labels::relabelled` meets its contract. Assumes nothing.
+-- `relabelled` meets its contract: the four dibits one by one. Assumes nothing.
 use Rattle.labels.specs.LabelLaws.{relabel-other}
 use borrow.Author.Needs.{needs}
 use Rattle.labels.proofs.relabelled.Statement.{statement}

@@ -1,5 +1,5 @@
 -- `replay_sequence::run` is safe and ends: each step leaves a detector that may be run. Assumes nothing.
-use Rattle.sequence.specs.Ranges.{Ranged}
+use Rattle.lms_detector.specs.Ranges.{Ranged}
 use native.Mathlib.Omega.{arith}
 use borrow.Author.Needs.{needs}
 use Rattle.replay_sequence.proofs.run.Statement.{statement}
@@ -36,25 +36,37 @@ word-requires-2 : tie.Need-word-requires-2 Inv-loop μ-loop
 word-requires-2 c κs = search needs
 
 oldest-requires : tie.Need-oldest-requires Inv-loop μ-loop
-oldest-requires c κs = c .before .before .before .before .before .before .before .before .before .loop .inv .write
+oldest-requires c κs =
+    let kept = c .before .before .before .before .before .before .before .before .before .loop .inv in
+    kept .skeleton .place .write
 
 step-requires : tie.Need-step-requires Inv-loop μ-loop
-step-requires c κs = c .before .before .before .before .before .before .before .before .before .before .before .before .before .before .loop .inv
+step-requires c κs =
+    let kept = c .before .before .before .before .before .before .before .before .before .before .before .before .before .before .loop .inv in
+    kept
 
 stored-requires : tie.Need-stored-requires Inv-loop μ-loop
-stored-requires c κs = c .before .before .before .before .before .before .before .before .before .before .before .before .before .before .before .loop .inv .write
+stored-requires c κs =
+    let kept = c .before .before .before .before .before .before .before .before .before .before .before .before .before .before .before .loop .inv in
+    kept .skeleton .place .write
 
 tell-requires : tie.Need-tell-requires Inv-loop μ-loop
 tell-requires c κs = search needs
 
 sub-left : tie.Need-sub-left Inv-loop μ-loop
-sub-left c = omega (arith, c .before .before .before .before .before .before .before .before .before .before .before .before .before .before .before .before .before .before .before .before .before .loop-test)
+sub-left c =
+    let more = c .before .before .before .before .before .before .before .before .before .before .before .before .before .before .before .before .before .before .before .before .before .loop-test in
+    omega (arith, more)
 
 loop-less : tie.Need-loop-less Inv-loop μ-loop
-loop-less c = omega (arith, c .before .before .before .before .before .before .before .before .before .before .before .before .before .before .before .before .before .before .before .before .before .loop-test)
+loop-less c =
+    let more = c .before .before .before .before .before .before .before .before .before .before .before .before .before .before .before .before .before .before .before .before .before .loop-test in
+    omega (arith, more)
 
 loop-again : tie.Need-loop-again Inv-loop μ-loop
-loop-again c = c .before .before .before .before .before .before .before .step5 .ensures .1
+loop-again c =
+    let step5-is = c .before .before .before .before .before .before .before .step5 .ensures in
+    step5-is .1
 
 returns : tie.Need-returns Inv-loop μ-loop
 returns c = search needs

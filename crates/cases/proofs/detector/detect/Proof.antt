@@ -1,6 +1,6 @@
 -- `cases::detector::detect` is safe and ends: each step leaves a detector that may be run. Assumes nothing.
 use native.Mathlib.Omega.{arith}
-use Rattle.sequence.specs.Ranges.{Ranged}
+use Rattle.lms_detector.specs.Ranges.{Ranged}
 use borrow.Author.Needs.{needs}
 use Rattle.cases.proofs.detector.detect.Statement.{statement}
 use Rattle.cases.proofs.detector.detect.Tie as tie
@@ -26,13 +26,13 @@ point-requires : tie.Need-point-requires Inv-loop μ-loop
 point-requires c κs = search needs
 
 oldest-requires : tie.Need-oldest-requires Inv-loop μ-loop
-oldest-requires c κs = c .before .before .before .loop .inv .write
+oldest-requires c κs = c .before .before .before .loop .inv .skeleton .place .write
 
 step-requires : tie.Need-step-requires Inv-loop μ-loop
 step-requires c κs = c .before .before .before .before .before .before .before .before .loop .inv
 
 stored-requires : tie.Need-stored-requires Inv-loop μ-loop
-stored-requires c κs = c .before .before .before .before .before .before .before .before .before .loop .inv .write
+stored-requires c κs = c .before .before .before .before .before .before .before .before .before .loop .inv .skeleton .place .write
 
 tallied-requires : tie.Need-tallied-requires Inv-loop μ-loop
 tallied-requires c κs = search needs

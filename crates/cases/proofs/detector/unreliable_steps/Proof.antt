@@ -1,6 +1,7 @@
 -- `cases::detector::unreliable_steps` is safe: a fresh detector may be run. Assumes nothing.
-use Rattle.sequence.specs.Detector.{freshDetector}
-use Rattle.sequence.specs.Theorems.{fresh-sound}
+use Rattle.sequence.specs.Skeleton.{freshSkeleton}
+use Rattle.lms_detector.specs.Detector.{freshChannels}
+use Rattle.lms_detector.specs.Theorems.{fresh-ranged}
 use borrow.Author.Needs.{needs}
 use Rattle.cases.proofs.detector.unreliable_steps.Statement.{statement}
 use Rattle.cases.proofs.detector.unreliable_steps.Tie as tie
@@ -12,8 +13,8 @@ fresh-requires : tie.Need-fresh-requires
 fresh-requires c κs = search needs
 
 detect-requires : tie.Need-detect-requires
-unfolding freshDetector
-detect-requires c κs = rw (c .before .before .before .before .fresh .ensures, c .before .before .before .before .before .fresh-channels .ensures) (fresh-sound .ranged)
+unfolding freshSkeleton freshChannels
+detect-requires c κs = rw (c .before .before .before .before .fresh .ensures, c .before .before .before .before .before .fresh-channels .ensures) fresh-ranged
 
 slice-aggregate-text : tie.Need-slice-aggregate-text
 slice-aggregate-text c = search needs

@@ -1,4 +1,4 @@
--- `decisions::link::link` meets its contract. Assumes nothing.
+-- `link` meets its contract: the step with the oldest record, the symbol's record in its place, and the answer noted. Assumes nothing.
 use native.Mathlib.Omega.{arith}
 use Rattle.decisions.specs.Laws.{linked-is}
 use borrow.Author.Needs.{needs}
@@ -6,19 +6,29 @@ use Rattle.decisions.proofs.link.link.Statement.{statement}
 use Rattle.decisions.proofs.link.link.Tie as tie
 
 oldest-requires : tie.Need-oldest-requires
-oldest-requires c κs = c .before .before .before .before .before .before .pre .state .carrier .detector .write
+oldest-requires c κs =
+    let given = c .before .before .before .before .before .before .pre in
+    given .state .carrier .detector .skeleton .place .write
 
 step-requires : tie.Need-step-requires
-step-requires c κs = (c .before .before .before .before .before .before .before .before .before .before .before .before .before .pre .state, omega (arith, c .before .before .before .before .before .before .before .before .before .before .before .before .before .pre .symbols))
+step-requires c κs =
+    let given = c .before .before .before .before .before .before .before .before .before .before .before .before .before .pre in
+    (given .state, omega (arith, given .symbols))
 
 mul-t31 : tie.Need-mul-t31
-mul-t31 c = let w = c .before .before .before .before .before .before .before .before .before .before .before .before .before .before .before .pre .state .carrier .detector .write in search (needs, w)
+mul-t31 c =
+    let given = c .before .before .before .before .before .before .before .before .before .before .before .before .before .before .before .pre in
+    search (needs, given .state .carrier .detector .skeleton .place .write)
 
 element-set-from-records : tie.Need-element-set-from-records
-element-set-from-records c = let w = c .before .before .before .before .before .before .before .before .before .before .before .before .before .before .before .pre .state .carrier .detector .write in search (needs, w)
+element-set-from-records c =
+    let given = c .before .before .before .before .before .before .before .before .before .before .before .before .before .before .before .pre in
+    search (needs, given .state .carrier .detector .skeleton .place .write)
 
 noted-requires : tie.Need-noted-requires
-noted-requires c κs = c .before .before .before .before .before .before .before .before .before .before .before .before .before .before .before .before .before .pre .room
+noted-requires c κs =
+    let given = c .before .before .before .before .before .before .before .before .before .before .before .before .before .before .before .before .before .pre in
+    given .room
 
 same-length : tie.Need-same-length
 same-length c = search needs
@@ -27,7 +37,11 @@ same-length-2 : tie.Need-same-length-2
 same-length-2 c = search needs
 
 returns : tie.Need-returns
-returns c = linked-is _ _ _ _ _ _ (c .before .before .before .before .before .before .before .before .before .before .before .before .before .before .before .oldest .ensures) (c .before .before .before .before .before .before .before .before .step .ensures) (c .before .before .before .before .noted .ensures)
+returns c =
+    let oldest-is = c .before .before .before .before .before .before .before .before .before .before .before .before .before .before .before .oldest .ensures in
+    let step-is = c .before .before .before .before .before .before .before .before .step .ensures in
+    let noted-is = c .before .before .before .before .noted .ensures in
+    linked-is _ _ _ _ _ _ oldest-is step-is noted-is
 
 pub link-spec : {M : Type 1} → statement M
 link-spec =

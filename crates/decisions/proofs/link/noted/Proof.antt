@@ -1,4 +1,4 @@
--- `decisions::link::noted` meets its contract. Assumes nothing.
+-- `noted` meets its contract: nothing for a silent answer, a dibit and its pair for another. Assumes nothing.
 use native.Mathlib.Omega.{arith}
 use lib.ListN.{length-set}
 use Rattle.decisions.specs.Laws.{noted-silent, noted-dibit}

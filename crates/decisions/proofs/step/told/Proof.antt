@@ -1,4 +1,4 @@
--- `decisions::step::told` meets its contract. Assumes nothing.
+-- `told` meets its contract: both counts, and the label by the profile. Assumes nothing.
 use mir.Facts.{toZ-ofZ}
 use mir.Val.{SFits}
 use mir.Syntax.{w32}
@@ -20,7 +20,11 @@ labelled-requires : tie.Need-labelled-requires
 labelled-requires c κs = search needs
 
 returns : tie.Need-returns
-returns c = let h : SFits w32 (c .before .before .before .before .before .before .before .before .args .p .profile) = search needs in told-is _ _ _ _ _ _ _ _ (toZ-ofZ h) (c .before .before .before .before .before .counted .ensures) (c .before .before .before .before .counted2 .ensures) (c .before .before .is-conjugated .ensures) (c .before .labelled .ensures)
+returns c =
+    let args = c .before .before .before .before .before .before .before .before .args in
+    let counted-is = c .before .before .before .before .before .counted .ensures in
+    let counted2-is = c .before .before .before .before .counted2 .ensures in
+    let h : SFits w32 (args .p .profile) = search needs in told-is _ _ _ _ _ _ _ _ (toZ-ofZ h) counted-is counted2-is (c .before .before .is-conjugated .ensures) (c .before .labelled .ensures)
 
 pub told-spec : {M : Type 1} → statement M
 told-spec =

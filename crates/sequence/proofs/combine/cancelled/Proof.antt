@@ -1,4 +1,4 @@
--- `sequence::combine::cancelled` meets its contract. Assumes nothing.
+-- `cancelled` meets its contract: three products off the input, the latest symbol's first. Assumes nothing.
 use borrow.Author.Needs.{needs}
 use Rattle.sequence.proofs.combine.cancelled.Statement.{statement}
 use Rattle.sequence.proofs.combine.cancelled.Tie as tie
@@ -31,7 +31,13 @@ subtracted-requires-3 : tie.Need-subtracted-requires-3
 subtracted-requires-3 c κs = search needs
 
 returns : tie.Need-returns
-returns c = rw (c .subtracted3 .ensures, c .before .multiplied3 .ensures, c .before .before .symbol3 .ensures, c .before .before .before .subtracted2 .ensures, c .before .before .before .before .multiplied2 .ensures, c .before .before .before .before .before .symbol2 .ensures, c .before .before .before .before .before .before .subtracted .ensures, c .before .before .before .before .before .before .before .multiplied .ensures, c .before .before .before .before .before .before .before .before .symbol .ensures)
+returns c =
+    let multiplied2-is = c .before .before .before .before .multiplied2 .ensures in
+    let symbol2-is = c .before .before .before .before .before .symbol2 .ensures in
+    let subtracted-is = c .before .before .before .before .before .before .subtracted .ensures in
+    let multiplied-is = c .before .before .before .before .before .before .before .multiplied .ensures in
+    let symbol-is = c .before .before .before .before .before .before .before .before .symbol .ensures in
+    rw (c .subtracted3 .ensures, c .before .multiplied3 .ensures, c .before .before .symbol3 .ensures, c .before .before .before .subtracted2 .ensures, multiplied2-is, symbol2-is, subtracted-is, multiplied-is, symbol-is)
 
 pub cancelled-spec : {M : Type 1} → statement M
 cancelled-spec =

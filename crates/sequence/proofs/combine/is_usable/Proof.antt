@@ -1,4 +1,4 @@
--- `sequence::combine::is_usable` meets its contract. Assumes nothing.
+-- `is_usable` meets its contract: reliable, finite, above the least power. Assumes nothing.
 use borrow.Author.Needs.{needs}
 use Rattle.sequence.proofs.combine.is_usable.Statement.{statement}
 use Rattle.sequence.proofs.combine.is_usable.Tie as tie

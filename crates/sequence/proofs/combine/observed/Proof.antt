@@ -1,4 +1,4 @@
--- `sequence::combine::observed` meets its contract. Assumes nothing.
+-- `observed` meets its contract: both observations where the tap and the value are of use, and neither where not. Assumes nothing.
 use Rattle.sequence.specs.Laws.{observed-yes, observed-no}
 use borrow.Author.Needs.{needs}
 use Rattle.sequence.proofs.combine.observed.Statement.{statement}
@@ -23,10 +23,17 @@ divided-requires : tie.Need-divided-requires
 divided-requires c κs = search needs
 
 returns : tie.Need-returns
-returns c = observed-yes _ _ _ _ _ _ _ _ _ (c .before .before .before .before .before .before .power .ensures) (c .before .before .before .before .before .cancelled .ensures) (c .before .before .before .before .multiplied-conjugate .ensures) (c .before .before .before .is-usable .ensures) (c .before .before .is-finite .ensures) _ (c .before .if1 .taken) (c .divided .ensures)
+returns c =
+    let power-is = c .before .before .before .before .before .before .power .ensures in
+    let cancelled-is = c .before .before .before .before .before .cancelled .ensures in
+    let multiplied-conjugate-is = c .before .before .before .before .multiplied-conjugate .ensures in
+    observed-yes _ _ _ _ _ _ _ _ _ power-is cancelled-is multiplied-conjugate-is (c .before .before .before .is-usable .ensures) (c .before .before .is-finite .ensures) _ (c .before .if1 .taken) (c .divided .ensures)
 
 returns-2 : tie.Need-returns-2
-returns-2 c = observed-no _ _ _ _ _ _ _ _ _ (c .before .before .before .before .before .power .ensures) (c .before .before .before .before .cancelled .ensures) (c .before .before .before .multiplied-conjugate .ensures) (c .before .before .is-usable .ensures) (c .before .is-finite .ensures) (c .if1 .left)
+returns-2 c =
+    let power-is = c .before .before .before .before .before .power .ensures in
+    let cancelled-is = c .before .before .before .before .cancelled .ensures in
+    observed-no _ _ _ _ _ _ _ _ _ power-is cancelled-is (c .before .before .before .multiplied-conjugate .ensures) (c .before .before .is-usable .ensures) (c .before .is-finite .ensures) (c .if1 .left)
 
 pub observed-spec : {M : Type 1} → statement M
 observed-spec =

@@ -1,4 +1,4 @@
--- `sequence::soft::agreed` meets its contract. Assumes nothing.
+-- `agreed` meets its contract: the byte where the sign is the decided bit, and 0. Assumes nothing.
 use borrow.Author.Needs.{needs}
 use Rattle.sequence.proofs.soft.agreed.Statement.{statement}
 use Rattle.sequence.proofs.soft.agreed.Tie as tie

@@ -1,4 +1,4 @@
--- `sequence::soft::byte` meets its contract. Assumes nothing.
+-- `byte` meets its contract: scaled, clamped and cast. Assumes nothing.
 use Rattle.sequence.specs.Observed.{byteOf}
 use borrow.Author.Needs.{needs}
 use Rattle.sequence.proofs.soft.byte.Statement.{statement}

@@ -1,5 +1,5 @@
--- `sequence::soft::noise_after` meets its contract. Assumes nothing.
-use Rattle.sequence.specs.Observed.{noiseAfter}
+-- `noise_after` meets its contract: the noise moves on a reliable and finite residual, and stays else. Assumes nothing.
+use Rattle.sequence.specs.Observed.{noiseAfterOf}
 use borrow.Author.Needs.{needs}
 use Rattle.sequence.proofs.soft.noise_after.Statement.{statement}
 use Rattle.sequence.proofs.soft.noise_after.Tie as tie
@@ -11,11 +11,11 @@ min32-requires : tie.Need-min32-requires
 min32-requires c κs = search needs
 
 returns : tie.Need-returns
-unfolding noiseAfter
+unfolding noiseAfterOf
 returns c = rw (← c .before .before .is-finite32 .ensures, c .before .if1 .taken, c .min32 .ensures)
 
 returns-2 : tie.Need-returns-2
-unfolding noiseAfter
+unfolding noiseAfterOf
 returns-2 c = rw (← c .before .is-finite32 .ensures, c .if1 .left)
 
 pub noise-after-spec : {M : Type 1} → statement M

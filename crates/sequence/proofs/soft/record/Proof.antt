@@ -1,4 +1,4 @@
--- `sequence::soft::record` meets its contract. Assumes nothing.
+-- `record` meets its contract: three ways, one for each absent observation and one for both present. Assumes nothing.
 use borrow.Author.Needs.{needs}
 use Rattle.sequence.proofs.soft.record.Statement.{statement}
 use Rattle.sequence.proofs.soft.record.Tie as tie

@@ -1,4 +1,4 @@
--- `sequence::soft::scale` meets its contract. Assumes nothing.
+-- `scale` meets its contract: one over the sizes times the noise. Assumes nothing.
 use Rattle.sequence.specs.Observed.{scaleOf}
 use borrow.Author.Needs.{needs}
 use Rattle.sequence.proofs.soft.scale.Statement.{statement}

@@ -1,4 +1,4 @@
--- `sequence::step::fresh_channels` meets its contract. Assumes nothing.
+-- `fresh_channels` meets its contract: 256 turns, each storing the fresh tap of its place. Assumes nothing.
 use mathlib.Core.Path.{_≡_, ap}
 use Prim.Native.Nat.{_-_, _≤_}
 use lib.ListN.{length}

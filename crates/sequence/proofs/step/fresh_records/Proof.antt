@@ -1,4 +1,4 @@
--- `sequence::step::fresh_records` meets its contract. Assumes nothing.
+-- `fresh_records` meets its contract: 32 slots without a record. Assumes nothing.
 use Rattle.sequence.specs.Sequence.{freshRecords}
 use borrow.Author.Needs.{needs}
 use Rattle.sequence.proofs.step.fresh_records.Statement.{statement}

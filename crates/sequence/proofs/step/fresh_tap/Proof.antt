@@ -1,4 +1,4 @@
--- `sequence::step::fresh_tap` meets its contract. Assumes nothing.
+-- `fresh_tap` meets its contract: 1 in the main tap's 64 places, and 0 else. Assumes nothing.
 use Rattle.sequence.specs.Steps.{below-is, above-is}
 use Rattle.sequence.proofs.step.fresh_tap.Statement.{statement}
 use Rattle.sequence.proofs.step.fresh_tap.Tie as tie

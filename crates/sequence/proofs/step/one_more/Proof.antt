@@ -1,4 +1,4 @@
--- `sequence::step::one_more` meets its contract. Assumes nothing.
+-- `one_more` meets its contract: one more up to 32. Assumes nothing.
 use Rattle.sequence.specs.Steps.{below-is, above-is}
 use borrow.Author.Needs.{needs}
 use Rattle.sequence.proofs.step.one_more.Statement.{statement}

@@ -1,4 +1,4 @@
--- `sequence::step::reported` meets its contract. Assumes nothing.
+-- `reported` meets its contract: the residual and its noise, the record made with that noise, and the place after the step. Assumes nothing.
 use Rattle.sequence.specs.Sequence.{reportedOf}
 use borrow.Author.Needs.{needs}
 use Rattle.sequence.proofs.step.reported.Statement.{statement}
@@ -30,7 +30,12 @@ power-told-requires c κs = search needs
 
 returns : tie.Need-returns
 unfolding reportedOf
-returns c = rw (c .power-told .ensures, c .before .phase-between .ensures, c .before .before .one-more .ensures, c .before .before .before .before .«record» .ensures, c .before .before .before .before .before .noise-after .ensures, c .before .before .before .before .before .before .power .ensures, c .before .before .before .before .before .before .before .subtracted .ensures)
+returns c =
+    let record-is = c .before .before .before .before .«record» .ensures in
+    let noise-after-is = c .before .before .before .before .before .noise-after .ensures in
+    let power-is = c .before .before .before .before .before .before .power .ensures in
+    let subtracted-is = c .before .before .before .before .before .before .before .subtracted .ensures in
+    rw (c .power-told .ensures, c .before .phase-between .ensures, c .before .before .one-more .ensures, record-is, noise-after-is, power-is, subtracted-is)
 
 pub reported-spec : {M : Type 1} → statement M
 reported-spec =

@@ -1,4 +1,4 @@
--- `sequence::walk::decided` meets its contract. Assumes nothing.
+-- `decided` meets its contract: dibit 0 where no symbol is known before, and else the difference of the two. Assumes nothing.
 use mathlib.Core.Path.{subst}
 use native.Mathlib.Omega.{arith}
 use Rattle.sequence.specs.Laws.{decided-is}

@@ -1,4 +1,4 @@
--- `sequence::walk::dibit` meets its contract. Assumes nothing.
+-- `dibit` meets its contract: quarters 0, 1, 2 and 3 one by one. Assumes nothing.
 use Rattle.sequence.specs.Laws.{dibit-three}
 use borrow.Author.Needs.{needs}
 use Rattle.sequence.proofs.walk.dibit.Statement.{statement}

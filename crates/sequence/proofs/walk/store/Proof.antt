@@ -1,4 +1,4 @@
--- `sequence::walk::store` meets its contract. Assumes nothing.
+-- `store` meets its contract: 64 turns lay the row in its place. Assumes nothing.
 use mathlib.Core.Path.{_≡_, refl}
 use Prim.Native.Nat.{_-_, _≤_}
 use lib.ListN.{getD}

@@ -1,4 +1,4 @@
--- `sequence::walk::walk` meets its contract. Assumes nothing.
+-- `walk` meets its contract: silent with fewer than 31 steps before, and else decided where 31 parents lead. Assumes nothing.
 use Rattle.sequence.specs.Laws.{walk-silent, walk-full}
 use borrow.Author.Needs.{needs}
 use Rattle.sequence.proofs.walk.walk.Statement.{statement}
@@ -7,14 +7,14 @@ use Rattle.sequence.proofs.walk.walk.Tie as tie
 returns : tie.Need-returns
 returns c = walk-silent _ _ _ _ _ _ (c .if1 .taken)
 
-back-requires : tie.Need-back-requires
-back-requires c κs = search needs
+state-before-requires : tie.Need-state-before-requires
+state-before-requires c κs = search needs
 
 decided-requires : tie.Need-decided-requires
 decided-requires c κs = search needs
 
 returns-2 : tie.Need-returns-2
-returns-2 c = walk-full _ _ _ _ _ _ _ _ (search needs) (c .before .back .ensures) (c .decided .ensures)
+returns-2 c = walk-full _ _ _ _ _ _ _ _ (search needs) (c .before .state-before .ensures) (c .decided .ensures)
 
 pub walk-spec : {M : Type 1} → statement M
-walk-spec = tie.close (tie.spec returns back-requires decided-requires returns-2)
+walk-spec = tie.close (tie.spec returns state-before-requires decided-requires returns-2)

@@ -1,7 +1,7 @@
--- `sequence::walk::with_record` meets its contract. Assumes nothing.
+-- `with_record` meets its contract: no reliabilities without a record, and each bit's own with one. Assumes nothing.
 use mathlib.Core.Path.{sym, ap}
 use Rattle.sequence.specs.Laws.{answer-is}
-use Rattle.sequence.specs.Walk.{answerWith}
+use Rattle.sequence.specs.Walk.{withRecordOf}
 use borrow.Author.Needs.{needs}
 use Rattle.sequence.proofs.walk.with_record.Statement.{statement}
 use Rattle.sequence.proofs.walk.with_record.Tie as tie
@@ -13,7 +13,7 @@ enum-told : tie.Need-enum-told
 enum-told c = search needs
 
 returns : tie.Need-returns
-returns c = sym (ap (answerWith _) (c .enum-told .given .1))
+returns c = sym (ap (withRecordOf _) (c .enum-told .given .1))
 
 agreed-requires : tie.Need-agreed-requires
 agreed-requires c κs = search needs

@@ -1,12 +1,12 @@
--- `sequence::walk::back` meets its contract. Assumes nothing.
+-- `state_before` meets its contract: 31 turns, each to a parent below 64. Assumes nothing.
 use mathlib.Core.Path.{_≡_}
 use Prim.Native.Nat.{_+_, _-_, _*_, _%_, _≤_, _<_}
 use native.Mathlib.Omega.{arith}
 use Rattle.laws.specs.Turns.{turns, turns-start, turns-step, turns-end}
-use Rattle.sequence.specs.Walk.{parentBefore, stateBefore}
+use Rattle.sequence.specs.Walk.{parentBefore, stateBeforeOf}
 use borrow.Author.Needs.{needs}
-use Rattle.sequence.proofs.walk.back.Statement.{statement}
-use Rattle.sequence.proofs.walk.back.Tie as tie
+use Rattle.sequence.proofs.walk.state_before.Statement.{statement}
+use Rattle.sequence.proofs.walk.state_before.Tie as tie
 
 abbrev Inv-loop : tie.InvT-loop
 Inv-loop parents newest best state₀ k₀ state k = (k ≤ 31) × (state ≡ turns (parentBefore parents newest) k best) × (state < 64)
@@ -45,11 +45,11 @@ loop-again : tie.Need-loop-again Inv-loop μ-loop
 loop-again c = (search needs, turns-step _ _ _ _ (c .before .before .loop .inv .1), c .before .before .before .pre .2 .below (64 * ((c .before .before .before .args .newest + 32 - c .before .before .loop .k) % 32) + c .before .before .loop .state) (omega arith))
 
 returns : tie.Need-returns Inv-loop μ-loop
-unfolding stateBefore
+unfolding stateBeforeOf
 returns c = turns-end _ _ 31 _ _ (c .before .loop .inv .1) (search needs) (search needs)
 
-pub back-spec : {M : Type 1} → statement M
-back-spec =
+pub state-before-spec : {M : Type 1} → statement M
+state-before-spec =
     tie.close
     (tie.spec
     Inv-loop

@@ -1,8 +1,8 @@
--- `carrier::turned` meets its contract. Assumes nothing.
-use Rattle.carrier.specs.Laws.{turned-is}
+-- `loop_after` meets its contract: the frequency first, then the phase by it, and lock by the new error. Assumes nothing.
+use Rattle.carrier.specs.Laws.{loop-is}
 use borrow.Author.Needs.{needs}
-use Rattle.carrier.proofs.turned.Statement.{statement}
-use Rattle.carrier.proofs.turned.Tie as tie
+use Rattle.carrier.proofs.loop_after.Statement.{statement}
+use Rattle.carrier.proofs.loop_after.Tie as tie
 
 phase-error-requires : tie.Need-phase-error-requires
 phase-error-requires c κs = search needs
@@ -23,10 +23,13 @@ is-locked-requires : tie.Need-is-locked-requires
 is-locked-requires c κs = search needs
 
 returns : tie.Need-returns
-returns c = turned-is _ _ _ _ _ _ _ _ _ (c .before .before .before .before .before .phase-error .ensures) (c .before .before .before .before .frequency-after .ensures) (c .before .before .before .error-after .ensures) (c .before .before .phase-after .ensures) (c .is-locked .ensures)
+returns c =
+    let phase-error-is = c .before .before .before .before .before .phase-error .ensures in
+    let frequency-after-is = c .before .before .before .before .frequency-after .ensures in
+    loop-is _ _ _ _ _ _ _ _ _ phase-error-is frequency-after-is (c .before .before .before .error-after .ensures) (c .before .before .phase-after .ensures) (c .is-locked .ensures)
 
-pub turned-spec : {M : Type 1} → statement M
-turned-spec =
+pub loop-after-spec : {M : Type 1} → statement M
+loop-after-spec =
     tie.close
     (tie.spec
     phase-error-requires

@@ -1,0 +1,23 @@
+-- What a step is lent, by the names of its parameters: a type that computes to the clause written out. Definitions only.
+use Prim.Native.Nat.{ℕ}
+use mathlib.Core.List.{List}
+use lib.Ieee.{Float}
+use denote.Ref.{now}
+use Rattle.laws.specs.Lent.{Lends}
+use Rattle.tracker.specs.Tracker.{Planes}
+use Rattle.sequence.specs.declared.step.Detected.{Detected}
+use Rattle.lms_detector.specs.Detector.{Run}
+
+-- the channels, the costs and the parents as they are given, and all that the step leaves
+module _ (r : Detected) (channelReal channelImaginary costs : Lends Float) (parents : Lends ℕ) where
+  abbrev pub leaves : (Planes → List Float → List ℕ → Run → Type 0) → Type 0
+  leaves Q =
+      Q
+      (record { real = now (channelReal .entry); imaginary = now (channelImaginary .entry) })
+      (now (costs .entry)) (now (parents .entry))
+      (record {
+        detected = r;
+        channels = record { real = now (channelReal .exit); imaginary = now (channelImaginary .exit) };
+        costs = now (costs .exit);
+        parents = now (parents .exit);
+      })
