@@ -7,16 +7,16 @@ use Rattle.numbers.specs.Numbers.{clampOf}
 use Rattle.numbers.specs.Root.{sqrtOf}
 use Rattle.complex.specs.Complex.{powerOf}
 use Rattle.equalizer.specs.declared.Sums.{Sums}
-use Rattle.equalizer.specs.Equalizer.{Row, Step, zero32, one32, sumsOf, stepOf, adaptedOf, normOf, scaledBy, limitedOf, learnsFrom, updatedOf, slopeOf, timingOf, equalizedOf}
+use Rattle.equalizer.specs.Equalizer.{Row, Step, zero32, one32, sumsOf, stepOf, adaptedOf, mostNorm, mostRoot, normOf, scaledBy, limitedOf, learnsFrom, updatedOf, slopeOf, timingOf, equalizedOf}
 
 -- ---- the norm's two ways
 module _ (w : Row) (size : Float) (is-norm : size ≡ normOf w) where
-  pub limited-found : (root : Float) (after : Row) → lt (ofBits binary32 1098907648) size ≡ true → root ≡ sqrtOf binary32 size
-      → after ≡ scaledBy (div binary32 (ofBits binary32 1082130432) root) w → after ≡ limitedOf w
+  pub limited-found : (root : Float) (after : Row) → lt mostNorm size ≡ true → root ≡ sqrtOf binary32 size
+      → after ≡ scaledBy (div binary32 mostRoot root) w → after ≡ limitedOf w
   unfolding limitedOf
   limited-found root after above is-root e = rw (← is-norm) (cond-then _ _ _ _ above (rw (← is-root) e))
 
-  pub limited-kept : lt (ofBits binary32 1098907648) size ≡ false → w ≡ limitedOf w
+  pub limited-kept : lt mostNorm size ≡ false → w ≡ limitedOf w
   unfolding limitedOf
   limited-kept under = rw (← is-norm) (cond-no _ _ _ _ under refl)
 
