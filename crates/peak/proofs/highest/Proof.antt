@@ -1,5 +1,5 @@
 -- `peak::highest` meets its contract. Assumes nothing.
-use Rattle.peak.specs.Columns.{highest-of}
+use Rattle.peak.specs.ColumnLaws.{highest-of}
 use borrow.Author.Needs.{needs}
 use Rattle.peak.proofs.highest.Statement.{statement}
 use Rattle.peak.proofs.highest.Tie as tie
