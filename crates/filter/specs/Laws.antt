@@ -16,7 +16,7 @@ use Rattle.laws.specs.Places.{upto, upto-at, upto-is, upto-same, fill, fill-ste
 use Rattle.laws.specs.Ring.{lt-or-ge}
 use Rattle.filter.specs.declared.sums.Sums.{Sums}
 use Rattle.filter.specs.declared.sums.Four.{Four}
-use Rattle.filter.specs.Filter.{armTap, ringAt, partOf, windowOf, Windows, windowsWith, matchedOf, armOf}
+use Rattle.filter.specs.Filter.{armTap, ringAt, partOf, windowOf, Windows, windowsWith, matchedOf, armTapsOf}
 use Rattle.filter.specs.Fast.{secondAt, secondsOf, woven, tappedOf, tappedFour, noFour, sumsOf, fourOf, putOf, groupOf, madeOf, Filled}
 
 -- ---- four windows side by side: one tap more
@@ -240,10 +240,10 @@ unfolding windowsWith
 windows-ring re im T U from = rw (plane-ring re T from, plane-ring im T from, plane-ring re U from, plane-ring im U from)
 
 pub matched-is : (taps derivatives re im er or ei oi T U : List Float) (arm from : ℕ) (w : Windows)
-    → T ≡ armOf taps arm → U ≡ armOf derivatives arm → er ≡ secondsOf re from → or ≡ secondsOf re (from + 1) → ei ≡ secondsOf im from → oi ≡ secondsOf im (from + 1)
+    → T ≡ armTapsOf taps arm → U ≡ armTapsOf derivatives arm → er ≡ secondsOf re from → or ≡ secondsOf re (from + 1) → ei ≡ secondsOf im from → oi ≡ secondsOf im (from + 1)
     → w ≡ windowsWith (woven er or) (woven ei oi) T U → w ≡ matchedOf taps derivatives re im arm from
 unfolding matchedOf
-matched-is taps derivatives re im er or ei oi T U arm from w t u a b c d h = h ∙ rw (t, u, a, b, c, d) (windows-ring re im (armOf taps arm) (armOf derivatives arm) from)
+matched-is taps derivatives re im er or ei oi T U arm from w t u a b c d h = h ∙ rw (t, u, a, b, c, d) (windows-ring re im (armTapsOf taps arm) (armTapsOf derivatives arm) from)
 
 -- ---- an arm's taps
 pub tap-first : (table : List Float) (arm : ℕ) → arm ≡ 0 → getD table 1024 nan ≡ armTap table arm 0
