@@ -2,8 +2,8 @@
 // writes a line for each: the digest of the place after it and, for a sample, of its windows.
 ghost use Prim.Native.Nat.{_≤_};
 ghost use lib.ListN.{length};
-use clock::Answer;
 use clock::ClockPlace;
+use clock::Due;
 use complex::Complex32;
 use replay::any;
 use replay::mixed;
@@ -46,10 +46,10 @@ fn mixed_21(h: u64, values: &[f32; 21]) -> u64 {
     mixed_plane(h, values)
 }
 
-fn came(answer: Answer) -> bool {
-    match answer {
-        Answer::NoSymbol => false,
-        Answer::Symbol(_, _) => true,
+fn came(due: Due) -> bool {
+    match due {
+        Due::NoSymbol => false,
+        Due::Symbol(_, _) => true,
     }
 }
 
@@ -62,7 +62,7 @@ fn stepped<'a>(
     real: &mut [f32; 256],
     imaginary: &mut [f32; 256],
 ) -> ClockPlace {
-    if !clock::admitted(c) {
+    if !clock::is_admitted(c) {
         io::write_all(1, b"not admitted\n");
         return c;
     }
@@ -83,8 +83,8 @@ fn stepped<'a>(
         &mut derivative_imaginary,
     );
     let place = s.place;
-    let answer = s.answer;
-    let h = mixed_place(mixed_flag(0, came(answer)), place);
+    let due = s.due;
+    let h = mixed_place(mixed_flag(0, came(due)), place);
     let values = mixed_21(mixed_21(h, &value_real), &value_imaginary);
     let all = mixed_21(mixed_21(values, &derivative_real), &derivative_imaginary);
     print_line(all, 16);

@@ -1,9 +1,9 @@
--- `clock::admitted` meets its contract. Assumes nothing.
+-- `clock::is_admitted` meets its contract. Assumes nothing.
 use lib.Ieee.{ofBits, neg}
 use Rattle.clock.specs.AdmittedLaws.{admitted-is}
 use borrow.Author.Needs.{needs}
-use Rattle.clock.proofs.admitted.Statement.{statement}
-use Rattle.clock.proofs.admitted.Tie as tie
+use Rattle.clock.proofs.is_admitted.Statement.{statement}
+use Rattle.clock.proofs.is_admitted.Tie as tie
 
 counts-fit-requires : tie.Need-counts-fit-requires
 counts-fit-requires c κs = search needs
@@ -12,5 +12,5 @@ returns : tie.Need-returns
 unfolding ofBits neg
 returns c = admitted-is _ _ (c .counts-fit .ensures)
 
-pub admitted-spec : {M : Type 1} → statement M
-admitted-spec = tie.close (tie.spec counts-fit-requires returns)
+pub is-admitted-spec : {M : Type 1} → statement M
+is-admitted-spec = tie.close (tie.spec counts-fit-requires returns)
