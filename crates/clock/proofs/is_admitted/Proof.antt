@@ -1,4 +1,4 @@
--- `clock::is_admitted` meets its contract. Assumes nothing.
+-- `clock::is_admitted` meets its contract: its tests, put together with what `counts_fit` answers, are the definition's. Assumes nothing.
 use lib.Ieee.{ofBits, neg}
 use Rattle.clock.specs.AdmittedLaws.{admitted-is}
 use borrow.Author.Needs.{needs}

@@ -1,4 +1,4 @@
--- `equalizer::timing_error` meets its contract. Assumes nothing.
+-- `equalizer::timing_error` meets its contract: the two ways, by whether the symbol is reliable, are the definition's. Assumes nothing.
 use Rattle.equalizer.specs.Equalizer.{timingOf}
 use borrow.Author.Needs.{needs}
 use Rattle.equalizer.proofs.timing_error.Statement.{statement}
@@ -9,7 +9,9 @@ clamp32-requires c κs = search needs
 
 returns : tie.Need-returns
 unfolding timingOf
-returns c = rw (c .before .before .before .before .before .if1 .taken) (c .clamp32 .ensures)
+returns c =
+    let sure = c .before .before .before .before .before .if1 .taken in
+    rw sure (c .clamp32 .ensures)
 
 returns-2 : tie.Need-returns-2
 unfolding timingOf

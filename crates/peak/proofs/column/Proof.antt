@@ -1,4 +1,4 @@
--- `peak::column` meets its contract. Assumes nothing.
+-- `peak::column` meets its contract: it is four calls of `over`, from 0 up. Assumes nothing.
 use Rattle.peak.specs.Columns.{columnOf}
 use borrow.Author.Needs.{needs}
 use Rattle.peak.proofs.column.Statement.{statement}

@@ -1,4 +1,4 @@
--- `peak::followed` meets its contract. Assumes nothing.
+-- `peak::followed` meets its contract: it is what `max32` answers. Assumes nothing.
 use Rattle.peak.specs.Peak.{referenceOf}
 use borrow.Author.Needs.{needs}
 use Rattle.peak.proofs.followed.Statement.{statement}

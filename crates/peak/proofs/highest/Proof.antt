@@ -1,4 +1,4 @@
--- `peak::highest` meets its contract. Assumes nothing.
+-- `peak::highest` meets its contract: the peak of the quarters of the columns is the peak by columns. Assumes nothing.
 use Rattle.peak.specs.ColumnLaws.{highest-of}
 use borrow.Author.Needs.{needs}
 use Rattle.peak.proofs.highest.Statement.{statement}
@@ -29,7 +29,13 @@ over-requires-3 : tie.Need-over-requires-3
 over-requires-3 c κs = search needs
 
 returns : tie.Need-returns
-returns c = highest-of _ _ _ _ _ _ _ _ _ (c .before .before .before .before .before .before .before .before .before .before .before .columns .ensures) (c .before .before .before .before .before .before .before .before .before .quarter .ensures) (c .before .before .before .before .before .before .before .quarter2 .ensures) (c .before .before .before .before .quarter3 .ensures) (c .before .before .quarter4 .ensures) (c .before .before .before .before .before .before .over .ensures) (c .before .over2 .ensures) (c .over3 .ensures)
+returns c =
+    let is-columns = c .before .before .before .before .before .before .before .before .before .before .before .columns .ensures in
+    let is-quarter = c .before .before .before .before .before .before .before .before .before .quarter .ensures in
+    let is-quarter2 = c .before .before .before .before .before .before .before .quarter2 .ensures in
+    let is-quarter3 = c .before .before .before .before .quarter3 .ensures in
+    let is-low = c .before .before .before .before .before .before .over .ensures in
+    highest-of _ _ _ _ _ _ _ _ _ is-columns is-quarter is-quarter2 is-quarter3 (c .before .before .quarter4 .ensures) is-low (c .before .over2 .ensures) (c .over3 .ensures)
 
 pub highest-spec : {M : Type 1} → statement M
 highest-spec =

@@ -1,4 +1,4 @@
--- `peak::over` meets its contract. Assumes nothing.
+-- `peak::over` meets its contract: the definition goes by the same comparison. Assumes nothing.
 use mathlib.Core.Path.{refl}
 use Rattle.laws.specs.Branches.{cond-yes, cond-no}
 use Rattle.peak.specs.Peak.{topOf}

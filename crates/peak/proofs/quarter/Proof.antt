@@ -1,4 +1,4 @@
--- `peak::quarter` meets its contract. Assumes nothing.
+-- `peak::quarter` meets its contract: it is four calls of `over`, from 0 up. Assumes nothing.
 use Rattle.peak.specs.Columns.{quarterOf}
 use borrow.Author.Needs.{needs}
 use Rattle.peak.proofs.quarter.Statement.{statement}

@@ -19,7 +19,10 @@ returns : tie.Need-returns
 returns c = search needs
 
 step-requires : tie.Need-step-requires
-step-requires c κs = (admitted-facts _ (sym (c .before .before .before .before .before .before .before .is-admitted .ensures) ∙ not-false _ (c .before .before .before .before .before .before .if1 .left)), (search needs, (search needs, (search needs, search needs))))
+step-requires c κs =
+    let is-tested = c .before .before .before .before .before .before .before .is-admitted .ensures in
+    let passed = c .before .before .before .before .before .before .if1 .left in
+    (admitted-facts _ (sym is-tested ∙ not-false _ passed), (search needs, (search needs, (search needs, search needs))))
 
 came-requires : tie.Need-came-requires
 came-requires c κs = search needs

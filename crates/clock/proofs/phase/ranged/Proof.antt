@@ -1,4 +1,4 @@
--- `clock::phase::ranged` meets its contract. Assumes nothing.
+-- `clock::phase::ranged` meets its contract: below 0, in 0..32, from 32 on and NaN, the closed form is what the definition's loops make. Assumes nothing.
 use Rattle.clock.specs.Ranged.{truncates, middle-in, same-middle, high-in, high-is, same-high, same-nan, held}
 use borrow.Author.Needs.{needs}
 use Rattle.clock.proofs.phase.ranged.Statement.{statement}
@@ -22,7 +22,9 @@ truncating-f32-to-u64-requires-2 : tie.Need-truncating-f32-to-u64-requires-2
 truncating-f32-to-u64-requires-2 c κs = truncates _ (high-in _ (c .before .before .before .pre) (c .before .before .if1 .left) (c .if3 .taken))
 
 sub-t8 : tie.Need-sub-t8
-sub-t8 c = high-is _ _ (c .before .before .before .before .pre) (c .before .if3 .taken) (c .truncating-f32-to-u642 .ensures) .least
+sub-t8 c =
+    let asked = c .before .before .before .before .pre in
+    high-is _ _ asked (c .before .if3 .taken) (c .truncating-f32-to-u642 .ensures) .least
 
 returns-3 : tie.Need-returns-3
 returns-3 c =

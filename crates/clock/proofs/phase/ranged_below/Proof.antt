@@ -1,4 +1,4 @@
--- `clock::phase::ranged_below` meets its contract. Assumes nothing.
+-- `clock::phase::ranged_below` meets its contract: from below 0 the loops raise the phase once. Assumes nothing.
 use Rattle.clock.specs.Ranged.{neg-in, same-low, held}
 use borrow.Author.Needs.{needs}
 use Rattle.clock.proofs.phase.ranged_below.Statement.{statement}

@@ -1,4 +1,4 @@
--- `clock::tick::ticked` meets its contract. Assumes nothing.
+-- `clock::tick::ticked` meets its contract: the ring has room, since its count is below 256; the sample goes to its end. Assumes nothing.
 use mathlib.Core.Path.{refl}
 use native.Mathlib.Omega.{arith}
 use Rattle.clock.specs.Laws.{assertion-holds, taken-hot, taken-first, ticked-is, after-of}

@@ -1,4 +1,4 @@
--- `clock::tick::timed` meets its contract. Assumes nothing.
+-- `clock::tick::timed` meets its contract: the three ways (warm, cold and waiting, cold with 83 samples in) are the definition's. Assumes nothing.
 use mathlib.Core.Path.{_∙_}
 use Rattle.clock.specs.Laws.{timed-hot, timed-cold, timed-first}
 use Rattle.clock.proofs.tick.timed.Statement.{statement}

@@ -1,4 +1,4 @@
--- `clock::tick::timed_warm` meets its contract. Assumes nothing.
+-- `clock::tick::timed_warm` meets its contract: the two ways, by whether the windows are in, are the definition's, with the phase that `ranged` gives. Assumes nothing.
 use mathlib.Core.Path.{refl}
 use Rattle.clock.specs.Ranged.{same-held}
 use Rattle.clock.specs.Laws.{warm-not, warm-due}

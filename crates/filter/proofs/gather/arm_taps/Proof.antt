@@ -1,4 +1,4 @@
--- `filter::gather::arm_taps` meets its contract. The invariant: the first i places are filled. Assumes nothing.
+-- `filter::gather::arm_taps` meets its contract: the invariant is the first i taps filled. Assumes nothing.
 use Prim.Native.Nat.{_≤_, _-_}
 use mathlib.Core.Path.{_≡_}
 use lib.ListN.{length}

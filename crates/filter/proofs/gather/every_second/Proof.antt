@@ -1,4 +1,4 @@
--- `filter::gather::every_second` meets its contract. The invariant: the first j places are filled. Assumes nothing.
+-- `filter::gather::every_second` meets its contract: the invariant is the first j samples filled. Assumes nothing.
 use Prim.Native.Nat.{_≤_, _-_}
 use mathlib.Core.Path.{_≡_}
 use mathlib.Core.Path.{refl}

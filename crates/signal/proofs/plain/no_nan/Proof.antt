@@ -1,4 +1,4 @@
--- `signal::plain::no_nan` meets its contract. Assumes nothing.
+-- `signal::plain::no_nan` meets its contract: x is unlike itself exactly where it is a NaN. Assumes nothing.
 use mathlib.Core.Path.{refl, sym, _∙_}
 use lib.Ieee.{ofBits, div, isNan}
 use Rattle.laws.specs.Branches.{cond-yes, cond-no}

@@ -1,4 +1,4 @@
--- `signal::plain::with_point` meets its contract. Assumes nothing.
+-- `signal::plain::with_point` meets its contract: a part that is no NaN is widened exactly; the rest is what the calls answer. Assumes nothing.
 use Rattle.signal.specs.Quotients.{number-exact}
 use borrow.Author.Needs.{needs}
 use Rattle.signal.proofs.plain.with_point.Statement.{statement}
@@ -29,7 +29,10 @@ smaller-requires-2 : tie.Need-smaller-requires-2
 smaller-requires-2 c κs = search needs
 
 returns : tie.Need-returns
-returns c = rw (c .smaller2 .ensures, c .before .span2 .ensures, c .before .before .smaller .ensures, c .before .before .before .span .ensures, c .before .before .before .before .before .before .before .no-nan2 .ensures .0, c .before .before .before .before .before .before .before .before .no-nan .ensures .0)
+returns c =
+    let is-y = c .before .before .before .before .before .before .before .no-nan2 .ensures in
+    let is-x = c .before .before .before .before .before .before .before .before .no-nan .ensures in
+    rw (c .smaller2 .ensures, c .before .span2 .ensures, c .before .before .smaller .ensures, c .before .before .before .span .ensures, is-y .0, is-x .0)
 
 pub with-point-spec : {M : Type 1} → statement M
 with-point-spec =
