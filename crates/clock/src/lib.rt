@@ -2,7 +2,7 @@
 // for each symbol, and a loop that turns the arms by a timing error. Ring and windows are planes of
 // real and imaginary parts that the caller lends.
 ghost use mathlib.Core.Path.{_≡_};
-ghost use Rattle.filter.specs.Lends.{Sized, given};
+ghost use Rattle.filter.specs.Lends.{Windowed, given};
 ghost use Rattle.clock.specs.Clock.{freshPlace, countsFit, admittedOf, steppedOf, updatedOf};
 ghost use Rattle.clock.specs.Ranges.{Admitted, After};
 ghost use Rattle.clock.specs.Lends.{leaves};
@@ -94,7 +94,7 @@ pub fn step<'a>(
     derivative_imaginary: &mut [f32; WINDOWS],
 ) -> Stepped
     requires { ⌜ Admitted c ⌝ }
-    requires { ⌜ given «value_real» «value_imaginary» «derivative_real» «derivative_imaginary» Sized ⌝ }
+    requires { ⌜ given «value_real» «value_imaginary» «derivative_real» «derivative_imaginary» Windowed ⌝ }
     ensures same { λ r. ⌜ leaves «ring_real» «ring_imaginary» «value_real» «value_imaginary» «derivative_real» «derivative_imaginary» r
         (λ real imaginary windows after. after ≡ steppedOf (now (taps .entry)) (now (derivatives .entry)) c sample real imaginary windows) ⌝ }
     ensures kept { λ r. ⌜ After (r .due) (r .place) ⌝ }

@@ -56,8 +56,8 @@ noSums = record { value = zeroPair; derivative = zeroPair; energy = zero32 }
 abbrev pub sumsTurn : Row → Row → Row → ℕ → Sums → Sums
 sumsTurn w x dx k s = tappedOf s (tapAt w k) (tapAt x k) (tapAt dx k)
 
-unfoldable pub sumsOf : Row → Row → Row → Sums
-sumsOf w x dx = turns (sumsTurn w x dx) 21 noSums
+unfoldable pub tapSumsOf : Row → Row → Row → Sums
+tapSumsOf w x dx = turns (sumsTurn w x dx) 21 noSums
 
 -- ---- the weights
 
@@ -114,12 +114,12 @@ abbrev pub leastEnergy : Float
 leastEnergy = ofBits binary32 0x3c23d70a  -- 0.01
 
 -- reliable, an energy above the least, and both numbers finite
-abbrev pub learnsFrom : Bool → Float → Float → Bool
-learnsFrom reliable energy power = reliable && lt leastEnergy energy && isFinite energy && isFinite power
+abbrev pub learnsOf : Bool → Float → Float → Bool
+learnsOf reliable energy power = reliable && lt leastEnergy energy && isFinite energy && isFinite power
 
 unfoldable pub updatedOf : Sums → Bool → Row → Row → Row
 updatedOf s reliable x w =
-    cond (learnsFrom reliable (s .energy) (powerOf (s .value)))
+    cond (learnsOf reliable (s .energy) (powerOf (s .value)))
     (limitedOf (adaptedOf (s .value) (stepOf (powerOf (s .value)) (s .energy)) x w))
     w
 
@@ -130,8 +130,8 @@ abbrev pub slopeOf : Sums → Float
 slopeOf s = mul binary32 half32 (conjugateProductOf (s .value) (s .derivative) .real)
 
 -- kept in -1..1, and a NaN kept; zero when unreliable
-unfoldable pub timingOf : Sums → Bool → Float
-timingOf s reliable = cond reliable (clampOf (slopeOf s) (neg one32) one32) zero32
+unfoldable pub timingErrorOf : Sums → Bool → Float
+timingErrorOf s reliable = cond reliable (clampOf (slopeOf s) (neg one32) one32) zero32
 
 -- one symbol, and the weights after it
 pub record Step : Type 0 where
@@ -139,7 +139,7 @@ pub record Step : Type 0 where
   pub weights : Row
 
 abbrev pub stepFrom : Sums → Bool → Row → Row → Step
-stepFrom s reliable x w = record { equalized = record { value = s .value; timing = timingOf s reliable }; weights = updatedOf s reliable x w }
+stepFrom s reliable x w = record { equalized = record { value = s .value; timing = timingErrorOf s reliable }; weights = updatedOf s reliable x w }
 
 unfoldable pub equalizedOf : Row → Row → Row → Bool → Step
-equalizedOf w x dx reliable = stepFrom (sumsOf w x dx) reliable x w
+equalizedOf w x dx reliable = stepFrom (tapSumsOf w x dx) reliable x w

@@ -3,7 +3,7 @@
 // window, dr and di those of its derivatives.
 ghost use mathlib.Core.Path.{_≡_};
 ghost use Rattle.equalizer.specs.Lends.{reads, leaves};
-ghost use Rattle.equalizer.specs.Equalizer.{Step, freshReal, freshImaginary, tappedOf, sumsOf, adaptedOf, normOf, scaledBy, limitedOf, stepOf, learnsFrom, updatedOf, timingOf, equalizedOf};
+ghost use Rattle.equalizer.specs.Equalizer.{Step, freshReal, freshImaginary, tappedOf, tapSumsOf, adaptedOf, normOf, scaledBy, limitedOf, stepOf, learnsOf, updatedOf, timingErrorOf, equalizedOf};
 use complex::Complex32;
 use numbers::compare::clamp32;
 use numbers::compare::is_finite32;
@@ -69,7 +69,7 @@ fn tap_sums(
     dr: &[f32; WEIGHTS],
     di: &[f32; WEIGHTS],
 ) -> Sums
-    ensures { λ r. ⌜ reads wr wi (λ w. reads xr xi (λ x. reads dr di (λ dx. r ≡ sumsOf w x dx))) ⌝ }
+    ensures { λ r. ⌜ reads wr wi (λ w. reads xr xi (λ x. reads dr di (λ dx. r ≡ tapSumsOf w x dx))) ⌝ }
 {
     let mut s = Sums {
         value: complex::zero(),
@@ -161,7 +161,7 @@ fn step_of(power: f32, energy: f32) -> f32
 }
 
 fn learns(reliable: bool, energy: f32, power: f32) -> bool
-    ensures { λ r. ⌜ r ≡ learnsFrom reliable energy power ⌝ }
+    ensures { λ r. ⌜ r ≡ learnsOf reliable energy power ⌝ }
 {
     reliable & (energy > 0.01) & is_finite32(energy) & is_finite32(power)
 }
@@ -188,7 +188,7 @@ fn update(
 // Half the product of the value and its derivative, kept in -1..=1; a NaN stays. Nothing while the
 // signal is not reliable.
 fn timing_error(s: Sums, reliable: bool) -> f32
-    ensures { λ r. ⌜ r ≡ timingOf s reliable ⌝ }
+    ensures { λ r. ⌜ r ≡ timingErrorOf s reliable ⌝ }
 {
     let value = s.value;
     let derivative = s.derivative;

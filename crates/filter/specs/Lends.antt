@@ -6,8 +6,9 @@ use denote.Ref.{now}
 use Rattle.laws.specs.Lent.{Now, Lends}
 use Rattle.filter.specs.Filter.{Windows}
 
-abbrev pub Sized : Windows → Type 0
-Sized w = (length (w .real) ≡ 21) × ((length (w .imaginary) ≡ 21) × ((length (w .derivativeReal) ≡ 21) × (length (w .derivativeImaginary) ≡ 21)))
+-- each plane has a place for each of the 21 windows
+abbrev pub Windowed : Windows → Type 0
+Windowed w = (length (w .real) ≡ 21) × ((length (w .imaginary) ≡ 21) × ((length (w .derivativeReal) ≡ 21) × (length (w .derivativeImaginary) ≡ 21)))
 
 module _ (real imaginary derivativeReal derivativeImaginary : Now Float) where
   -- P of the windows as they are lent

@@ -3,7 +3,7 @@ ghost use mathlib.Core.Path.{_≡_};
 ghost use Prim.Native.Nat.{_<_, _≤_};
 ghost use lib.ListN.{length};
 ghost use Rattle.filter.specs.Filter.{armTap, armTapsOf};
-ghost use Rattle.filter.specs.Fast.{secondsOf};
+ghost use Rattle.filter.specs.Fast.{everySecondOf};
 use super::ARM;
 use super::HALF;
 use super::RING;
@@ -33,7 +33,7 @@ pub fn arm_taps(table: &[f32; TAPS], arm: usize, taps: &mut [f32; ARM])
 // Every second one of the 74 samples from `from` on.
 pub fn every_second(ring: &[f32; RING], from: usize, out: &mut [f32; HALF])
     requires { ⌜ from ≤ 256 ⌝ ∗ ⌜ length (now out) ≡ 37 ⌝ }
-    ensures { λ r. ⌜ now (out .exit) ≡ secondsOf (now (ring .entry)) from ⌝ }
+    ensures { λ r. ⌜ now (out .exit) ≡ everySecondOf (now (ring .entry)) from ⌝ }
 {
     let mut j = 0;
     while j < HALF {

@@ -4,7 +4,7 @@
 ghost use mathlib.Core.Path.{_≡_};
 ghost use Prim.Native.Nat.{_<_, _≤_};
 ghost use Rattle.filter.specs.Filter.{windowsWith, matchedOf};
-ghost use Rattle.filter.specs.Lends.{Sized, given, leaves};
+ghost use Rattle.filter.specs.Lends.{Windowed, given, leaves};
 ghost use Rattle.filter.specs.Fast.{woven, putOf, groupOf};
 
 mod gather;
@@ -63,7 +63,7 @@ fn windows(
     derivative_real: &mut [f32; WINDOWS],
     derivative_imaginary: &mut [f32; WINDOWS],
 )
-    requires { ⌜ given «value_real» «value_imaginary» «derivative_real» «derivative_imaginary» Sized ⌝ }
+    requires { ⌜ given «value_real» «value_imaginary» «derivative_real» «derivative_imaginary» Windowed ⌝ }
     ensures { λ r. ⌜ leaves «value_real» «value_imaginary» «derivative_real» «derivative_imaginary» (λ _ after. after ≡ windowsWith
         (woven (now («even_real» .entry)) (now («odd_real» .entry)))
         (woven (now («even_imaginary» .entry)) (now («odd_imaginary» .entry)))
@@ -135,7 +135,7 @@ pub fn matched<'a>(
     derivative_imaginary: &mut [f32; WINDOWS],
 )
     requires { ⌜ arm < 32 ⌝ ∗ ⌜ from < 256 ⌝ }
-    requires { ⌜ given «value_real» «value_imaginary» «derivative_real» «derivative_imaginary» Sized ⌝ }
+    requires { ⌜ given «value_real» «value_imaginary» «derivative_real» «derivative_imaginary» Windowed ⌝ }
     ensures { λ r. ⌜ leaves «value_real» «value_imaginary» «derivative_real» «derivative_imaginary» (λ _ after. after ≡ matchedOf
         (now (taps .entry)) (now (derivatives .entry)) (now («ring_real» .entry)) (now («ring_imaginary» .entry)) arm from) ⌝ }
 {

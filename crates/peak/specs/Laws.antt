@@ -21,7 +21,7 @@ use Rattle.complex.specs.Complex.{scaledOf}
 use Rattle.peak.specs.declared.KeeperPlace.{KeeperPlace}
 use Rattle.peak.specs.declared.Kept.{Kept}
 use Rattle.peak.specs.declared.Level.the-variants.{Filling, At}
-use Rattle.peak.specs.Peak.{freshPlace, admittedOf, Admitted, Ring, Run, smallerShare, envelopeOf, envelopesOf, peakOf, referenceOf, floorOf, gainOf, reliableOf, levelledOf, oldestOf, putIn, keptOf}
+use Rattle.peak.specs.Peak.{freshPlace, admittedOf, Admitted, Ring, Run, smallerShare, envelopeOf, envelopesOf, peakOf, followedOf, floorOf, gainOf, reliableOf, levelledOf, oldestOf, putIn, keptOf}
 use Rattle.peak.specs.Sized.{Sized, none, some}
 use Rattle.peak.specs.Columns.{highestOf}
 use Rattle.peak.specs.ColumnLaws.{highest-peak}
@@ -138,7 +138,7 @@ envelopes-set real imaginary at x y h r i = whole ∙ sym opened
 
 -- ---- what the code makes of its calls
 pub levelled-is : (head : ℕ) (reference peak : Float) (oldest : Complex32) (next least g : Float) (value : Complex32) (reliable : Bool)
-    → next ≡ referenceOf peak reference → least ≡ floorOf next → g ≡ gainOf peak least → value ≡ scaledOf oldest g → reliable ≡ reliableOf peak least
+    → next ≡ followedOf peak reference → least ≡ floorOf next → g ≡ gainOf peak least → value ≡ scaledOf oldest g → reliable ≡ reliableOf peak least
     → _≡_ {A = Kept} (record { place = record { head = head; fill = 64; reference = next }; level = At value reliable }) (levelledOf head reference oldest peak)
 unfolding levelledOf
 levelled-is head reference peak oldest next least g value reliable n l e v r = rw (r, v, e, l, n)

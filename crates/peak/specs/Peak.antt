@@ -66,9 +66,9 @@ abbrev pub faintest : Float
 faintest = ofBits binary32 0x2b8cbccc  -- 1e-12
 
 -- the peak, or the old reference a little less
-unfoldable pub referenceOf : Float → Float → Float
+unfoldable pub followedOf : Float → Float → Float
 unfolding maxOf mul ofBits
-referenceOf peak reference = maxOf peak (mul binary32 reference decay)
+followedOf peak reference = maxOf peak (mul binary32 reference decay)
 
 unfoldable pub floorOf : Float → Float
 unfolding mul ofBits
@@ -99,9 +99,9 @@ oldestOf ring head = record { real = getD (ring .real) head nan; imaginary = get
 
 -- once 64 values are in: the reference follows the peak, and the oldest value is given at its gain
 unfoldable pub levelledOf : ℕ → Float → Complex32 → Float → Kept
-unfolding referenceOf floorOf gainOf reliableOf
+unfolding followedOf floorOf gainOf reliableOf
 levelledOf head reference oldest peak =
-    let r = referenceOf peak reference in
+    let r = followedOf peak reference in
     let floor = floorOf r in
     record { place = record { head = head; fill = 64; reference = r }; level = At (scaledOf oldest (gainOf peak floor)) (reliableOf peak floor) }
 

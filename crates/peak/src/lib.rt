@@ -5,7 +5,7 @@ ghost use mathlib.Core.Path.{_≡_};
 ghost use Prim.Native.Nat.{_<_};
 ghost use lib.ListN.{length};
 ghost use Rattle.peak.specs.Lends.{leaves};
-ghost use Rattle.peak.specs.Peak.{Run, freshPlace, admittedOf, envelopeOf, envelopesOf, topOf, referenceOf, floorOf, gainOf, reliableOf, levelledOf, keptOf};
+ghost use Rattle.peak.specs.Peak.{Run, freshPlace, admittedOf, envelopeOf, envelopesOf, topOf, followedOf, floorOf, gainOf, reliableOf, levelledOf, keptOf};
 ghost use Rattle.peak.specs.Columns.{columnOf, columnsOf, quarterOf, highestOf};
 use complex::Complex32;
 use complex::scaled;
@@ -56,7 +56,7 @@ pub fn is_admitted(p: KeeperPlace) -> bool
 }
 
 // About the size of a value: its larger part and 0.4 of its smaller.
-pub fn envelope(real: f32, imaginary: f32) -> f32
+fn envelope(real: f32, imaginary: f32) -> f32
     ensures { λ r. ⌜ r ≡ envelopeOf real imaginary ⌝ }
 {
     let a = abs32(real);
@@ -77,7 +77,7 @@ pub fn envelopes(real: &[f32; VALUES], imaginary: &[f32; VALUES], out: &mut [f32
 }
 
 // The larger of a peak and an envelope, which may be a NaN.
-fn over(peak: f32, e: f32) -> f32
+fn top(peak: f32, e: f32) -> f32
     ensures { λ r. ⌜ r ≡ topOf peak e ⌝ }
 {
     if e > peak { e } else { peak }
@@ -88,7 +88,7 @@ fn column(e: &[f32; VALUES], k: usize) -> f32
     requires { ⌜ k < 16 ⌝ }
     ensures { λ r. ⌜ r ≡ columnOf (now (e .entry)) k ⌝ }
 {
-    over(over(over(over(0.0, e[k]), e[16 + k]), e[32 + k]), e[48 + k])
+    top(top(top(top(0.0, e[k]), e[16 + k]), e[32 + k]), e[48 + k])
 }
 
 // The peaks of all columns.
@@ -108,7 +108,7 @@ fn quarter(p: &[f32; COLUMNS], k: usize) -> f32
     requires { ⌜ k < 4 ⌝ }
     ensures { λ r. ⌜ r ≡ quarterOf (now (p .entry)) k ⌝ }
 {
-    over(over(over(over(0.0, p[k]), p[4 + k]), p[8 + k]), p[12 + k])
+    top(top(top(top(0.0, p[k]), p[4 + k]), p[8 + k]), p[12 + k])
 }
 
 // The largest of 64 envelopes, by columns that run side by side.
@@ -117,15 +117,15 @@ fn highest(e: &[f32; VALUES]) -> f32
 {
     let mut peaks = [0.0; COLUMNS];
     columns(e, &mut peaks);
-    let low = over(quarter(&peaks, 0), quarter(&peaks, 1));
-    let high = over(quarter(&peaks, 2), quarter(&peaks, 3));
-    over(low, high)
+    let low = top(quarter(&peaks, 0), quarter(&peaks, 1));
+    let high = top(quarter(&peaks, 2), quarter(&peaks, 3));
+    top(low, high)
 }
 
 // The peak, or the reference times 0.99995: in a second of 19,200 values without a peak it falls to
 // 0.38 of what it was.
 fn followed(peak: f32, reference: f32) -> f32
-    ensures { λ r. ⌜ r ≡ referenceOf peak reference ⌝ }
+    ensures { λ r. ⌜ r ≡ followedOf peak reference ⌝ }
 {
     max32(peak, reference * 0.99995)
 }

@@ -106,9 +106,9 @@ keeper-kept p z ring h =
 error-fits : (w x dx : Equalizer.Row) (reliable : Bool) → ErrorFits (Equalizer.equalizedOf w x dx reliable .equalized .timing)
 unfolding Equalizer.equalizedOf ofBits neg
 error-fits w x dx reliable =
-    let t = Equalizer.timingOf (Equalizer.sumsOf w x dx) reliable in
-    let low : lt t minusOne ≡ false = timing-not-below (Equalizer.sumsOf w x dx) reliable in
-    let high : lt one32 t ≡ false = timing-not-above (Equalizer.sumsOf w x dx) reliable in
+    let t = Equalizer.timingErrorOf (Equalizer.tapSumsOf w x dx) reliable in
+    let low : lt t minusOne ≡ false = timing-not-below (Equalizer.tapSumsOf w x dx) reliable in
+    let high : lt one32 t ≡ false = timing-not-above (Equalizer.tapSumsOf w x dx) reliable in
     ClockLaws.within-from t minusOne one32 tt (rw (low, high) tt)
 
 symbol-ranged : (a : Due) (w : Windows) (s : RecoveryState) (reliable : Bool) → KeeperRanged (s .place .keeper) (s .keeper) → After a (s .place .clock) → Ranged (symbolOf a w s reliable .state)

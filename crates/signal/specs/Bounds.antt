@@ -21,7 +21,7 @@ use Rattle.laws.specs.FloatValues.{round-least}
 use Rattle.signal.specs.Signal.{power64}
 use Rattle.signal.specs.declared.plain.Power.{Power}
 use Rattle.signal.specs.Plain.{isPlain, roundOf}
-use Rattle.signal.specs.Powers.{noNanOf, spanOf, noPower, powerStep, leastSpan, arePlain}
+use Rattle.signal.specs.Powers.{noNanOf, spanOf, noPower, powerStep, leastSpan, plainOf}
 use Rattle.signal.specs.Loops.{nextPoint, sumTurn}
 use Rattle.signal.specs.Quotients.{high100, square-is, signed-number}
 use Rattle.signal.specs.Spans.{both-least, plain-where}
@@ -145,7 +145,7 @@ pub record Told (w : Power) : Type 0 where
   pub up : leastSpan ≤ w .up
   pub sum : T (le (w .sum) high100)
 
-pub told : (w : Power) → arePlain w ≡ true → Told w
+pub told : (w : Power) → plainOf w ≡ true → Told w
 unfolding ofBits
 told w h =
     let t = passes _ h in

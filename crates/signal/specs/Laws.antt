@@ -19,7 +19,7 @@ use Rattle.numbers.specs.Root.{sqrtOf}
 use Rattle.complex.specs.declared.Complex32.{Complex32}
 use Rattle.complex.specs.declared.Observation.{Observation}
 use Rattle.signal.specs.declared.ViewPlace.{ViewPlace}
-use Rattle.signal.specs.Signal.{View, freshPlace, admittedOf, Admitted, outside, pointAt, pairedOf, pushedOf, ringOf, lastOf, partsOf, writtenOf, isUsable, meanPower, nothing, shownAs, shownOf, readOf}
+use Rattle.signal.specs.Signal.{View, freshPlace, admittedOf, Admitted, outside, pointAt, pairedOf, pushedOf, ringOf, lastOf, partsOf, writtenOf, usableOf, meanPower, nothing, shownAs, shownOf, readOf}
 
 -- ---- THE TEST AND THE FACTS
 pub admitted-facts : (p : ViewPlace) → admittedOf p ≡ true → Admitted p
@@ -183,4 +183,4 @@ pub past-kept : (v : View) (l : List Float) (d : Float) (i : ℕ) → readOf v l
 unfolding shownOf
 past-kept v l d i h =
     let zs = lastOf v (min (v .place .count) (length l / 2)) in
-    past-shown (sqrtOf binary64 (meanPower zs)) zs l d i (isUsable (length zs) (meanPower zs)) h
+    past-shown (sqrtOf binary64 (meanPower zs)) zs l d i (usableOf (length zs) (meanPower zs)) h

@@ -15,7 +15,7 @@ use Rattle.laws.specs.Ring.{latest}
 use Rattle.numbers.specs.Numbers.{convert, isFinite}
 use Rattle.numbers.specs.Root.{sqrtOf}
 use Rattle.complex.specs.declared.Complex32.{Complex32}
-use Rattle.signal.specs.Signal.{View, WrittenPoints, leastPower, hundred, outside, pointAt, ringOf, lastOf, pointsFrom, summed, meanOf, power64, errorAt, partsOf, writtenOf, isUsable, Read, nothing, shownAs, shownOf, readOf}
+use Rattle.signal.specs.Signal.{View, WrittenPoints, leastPower, hundred, outside, pointAt, ringOf, lastOf, pointsFrom, summed, meanOf, power64, errorAt, partsOf, writtenOf, usableOf, Read, nothing, shownAs, shownOf, readOf}
 use Rattle.signal.specs.Powers.{noNanOf}
 
 -- a loop over places is a fold over the list of what stands there
@@ -79,7 +79,7 @@ infinite-over nan = refl
 infinite-over (inf t) = refl
 infinite-over (fin t n d) = refl
 
-unusable : (n : ℕ) (power : Float) → isFinite power ≡ false → isUsable n power ≡ false
+unusable : (n : ℕ) (power : Float) → isFinite power ≡ false → usableOf n power ≡ false
 unusable n power h = rw h (go (not (eqb n 0)) (not (lt power leastPower)))
   where
     go : (b c : Bool) → (b && false && c) ≡ false
@@ -87,7 +87,7 @@ unusable n power h = rw h (go (not (eqb n 0)) (not (lt power leastPower)))
     go false c = refl
 
 -- where the sum is a NaN, neither it nor infinity in its place is usable
-no-nan-shown : (n : ℕ) (sum : Float) (f : Float → Read) (r : Read) → cond (isUsable n (meanOf (noNanOf sum) n)) (f (meanOf (noNanOf sum) n)) r ≡ cond (isUsable n (meanOf sum n)) (f (meanOf sum n)) r
+no-nan-shown : (n : ℕ) (sum : Float) (f : Float → Read) (r : Read) → cond (usableOf n (meanOf (noNanOf sum) n)) (f (meanOf (noNanOf sum) n)) r ≡ cond (usableOf n (meanOf sum n)) (f (meanOf sum n)) r
 unfolding isNan
 no-nan-shown n nan f r = rw (unusable n (meanOf (inf false) n) (infinite-over _), unusable n (meanOf nan n) (unfold div isFinite in refl))
 no-nan-shown n (inf s) f r = refl
@@ -100,11 +100,11 @@ module _ (v : View) (l : List Float) (n : ℕ) (sum power : Float) (usable : Boo
   abbrev shownWith : Float → Read
   shownWith p = shownAs n (writtenOf (sqrtOf binary64 p) shownPoints l)
 
-  shown-is : cond (isUsable n (meanOf (summed power64 shownPoints) n)) (shownWith (meanOf (summed power64 shownPoints) n)) (nothing l) ≡ readOf v l
+  shown-is : cond (usableOf n (meanOf (summed power64 shownPoints) n)) (shownWith (meanOf (summed power64 shownPoints) n)) (nothing l) ≡ readOf v l
   unfolding shownOf
   shown-is = rw (← is-count, last-from v n, length-from (v .real) (v .imaginary) ((v .place .head + 1024 - n) % 1024) n)
 
-  module _ (is-sum : sum ≡ noNanOf (summed power64 shownPoints)) (is-power : power ≡ meanOf sum n) (is-usable : usable ≡ isUsable n power) where
+  module _ (is-sum : sum ≡ noNanOf (summed power64 shownPoints)) (is-power : power ≡ meanOf sum n) (is-usable : usable ≡ usableOf n power) where
     read-is : cond usable (shownWith power) (nothing l) ≡ readOf v l
     read-is = rw (is-usable, is-power, is-sum) (no-nan-shown n (summed power64 shownPoints) shownWith (nothing l) ∙ shown-is)
 

@@ -9,7 +9,7 @@ use lib.ListN.{getD, set}
 use lib.Ieee.{Float, nan, binary32, binary64, ofBits, toBits, neg, add, div, le, eq, isNan, fits}
 use Rattle.numbers.specs.Numbers.{convert}
 use Rattle.complex.specs.declared.Complex32.{Complex32}
-use Rattle.signal.specs.Signal.{pointAt, missedBy}
+use Rattle.signal.specs.Signal.{pointAt, missedOf}
 
 -- the least and the largest size of a plain part that is not zero, and of a plain amplitude: the same numbers in both formats
 abbrev pub leastPart : Float
@@ -32,8 +32,8 @@ abbrev pub isPlain : Float → Bool
 isPlain x = (isSized x && (le x mostPart && le (neg mostPart) x)) || eq (ofBits binary32 0x00000000) x
 
 -- the parts are plain, and the amplitude too
-abbrev pub isCommon : Bool → Float → Bool
-isCommon plain amplitude = (plain && le leastAmplitude amplitude) && le amplitude mostAmplitude
+abbrev pub commonOf : Bool → Float → Bool
+commonOf plain amplitude = (plain && le leastAmplitude amplitude) && le amplitude mostAmplitude
 
 -- an amplitude from 2 ^ -60 to 2 ^ 60
 pub record PlainAmplitude (a : Float) : Type 0 where
@@ -58,7 +58,7 @@ pub record PlainRound (re im : List Float) (from n : ℕ) : Type 0 where
 
 -- the error of a point whose quotients are given
 abbrev pub errorFrom : Float → Float → Float
-errorFrom x y = add binary64 (missedBy x) (missedBy y)
+errorFrom x y = add binary64 (missedOf x) (missedOf y)
 
 -- ---- one turn, at a place of the planes and a place among the points
 module _ (re im : List Float) where

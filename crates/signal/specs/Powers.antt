@@ -19,8 +19,8 @@ abbrev pub spanOf : Float → ℕ
 spanOf x = cond (fits binary32 x) ((toBits binary32 x % 0x80000000 * 2 + 0xffffffff) % 0x100000000) 0
 
 -- one point more
-abbrev pub powerWith : Power → Float → Float → Power
-powerWith w x y = record {
+abbrev pub withPointOf : Power → Float → Float → Power
+withPointOf w x y = record {
   sum = add binary64 (w .sum) (power64 (record { real = noNanOf x; imaginary = noNanOf y }));
   across = min (w .across) (spanOf (noNanOf x));
   up = min (w .up) (spanOf (noNanOf y));
@@ -31,7 +31,7 @@ abbrev pub noPower : Power
 noPower = record { sum = zero64; across = 0xffffffff; up = 0xffffffff }
 
 abbrev pub powerStep : List Float → List Float → ℕ → ℕ → Power → Power
-powerStep re im p k w = powerWith w (getD re p nan) (getD im p nan)
+powerStep re im p k w = withPointOf w (getD re p nan) (getD im p nan)
 
 abbrev pub leastSpan : ℕ
 leastSpan = 0x42ffffff  -- the span of 2 ^ -60
@@ -40,10 +40,10 @@ abbrev pub mostSum : Float
 mostSum = ofBits binary64 0x4630000000000000  -- 2 ^ 100
 
 -- no span is under the least, and the sum is at most 2 ^ 100
-abbrev pub arePlain : Power → Bool
-arePlain w = (leb leastSpan (w .across) && leb leastSpan (w .up)) && le (w .sum) mostSum
+abbrev pub plainOf : Power → Bool
+plainOf w = (leb leastSpan (w .across) && leb leastSpan (w .up)) && le (w .sum) mostSum
 
 -- the powers of n points from a place on, and that every part is plain where they say so
 pub record PowerOf (re im : List Float) (from n : ℕ) (w : Power) : Type 0 where
   pub sum : w .sum ≡ noNanOf (summed power64 (pointsFrom re im from n))
-  pub plain : arePlain w ≡ true → PlainRound re im from n
+  pub plain : plainOf w ≡ true → PlainRound re im from n

@@ -114,14 +114,14 @@ abbrev pub ideal : Float
 ideal = ofBits binary64 0x3fe6a09e667f3bcd  -- 0.7071067811865476
 
 -- the square of how far the size of a part lies from the ideal
-abbrev pub missedBy : Float → Float
-missedBy part =
+abbrev pub missedOf : Float → Float
+missedOf part =
     let distance = sub binary64 (absOf part) ideal in
     mul binary64 distance distance
 
 -- a point's error at an amplitude
 abbrev pub errorAt : Float → Complex32 → Float
-errorAt amplitude z = add binary64 (missedBy (div binary64 (z .real) amplitude)) (missedBy (div binary64 (z .imaginary) amplitude))
+errorAt amplitude z = add binary64 (missedOf (div binary64 (z .real) amplitude)) (missedOf (div binary64 (z .imaginary) amplitude))
 
 -- the points over an amplitude, each part narrowed once, real and imaginary in turn
 unfoldable pub partsOf : Float → List Complex32 → List Float
@@ -147,8 +147,8 @@ abbrev pub leastPower : Float
 leastPower = ofBits binary64 0x3d719799812dea11  -- 1e-12
 
 -- points there are, and their mean power is finite and not under the least
-abbrev pub isUsable : ℕ → Float → Bool
-isUsable n power = not (eqb n 0) && isFinite power && not (lt power leastPower)
+abbrev pub usableOf : ℕ → Float → Bool
+usableOf n power = not (eqb n 0) && isFinite power && not (lt power leastPower)
 
 abbrev pub hundred : Float
 hundred = ofBits binary64 0x4059000000000000  -- 100
@@ -173,7 +173,7 @@ shownAs n w = record { reading = record { count = n; error = errorOf (w .errors)
 -- the points zs, shown
 unfoldable pub shownOf : List Complex32 → List Float → Read
 shownOf zs l =
-    cond (isUsable (length zs) (meanPower zs))
+    cond (usableOf (length zs) (meanPower zs))
     (shownAs (length zs) (writtenOf (sqrtOf binary64 (meanPower zs)) zs l))
     (nothing l)
 

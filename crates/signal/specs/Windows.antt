@@ -13,8 +13,8 @@ use denote.Floats.{passes}
 use Rattle.laws.specs.Turns.{turns, turns-plus, turns-same}
 use Rattle.signal.specs.declared.plain.Power.{Power}
 use Rattle.signal.specs.Signal.{WrittenPoints, pointsFrom, power64, errorAt, writtenOf}
-use Rattle.signal.specs.Plain.{leastAmplitude, mostAmplitude, isPlain, isCommon, PlainAmplitude, PlainRun, PlainRound, sumStep, writeStep, runOf, roundOf}
-use Rattle.signal.specs.Powers.{noNanOf, noPower, powerStep, arePlain, PowerOf}
+use Rattle.signal.specs.Plain.{leastAmplitude, mostAmplitude, isPlain, commonOf, PlainAmplitude, PlainRun, PlainRound, sumStep, writeStep, runOf, roundOf}
+use Rattle.signal.specs.Powers.{noNanOf, noPower, powerStep, plainOf, PowerOf}
 use Rattle.signal.specs.Bounds.{powersTo, no-nan-sum, told, all-plain}
 use Rattle.signal.specs.Loops.{summed-from, written-from}
 
@@ -73,12 +73,12 @@ module _ (start count first : ℕ) (inside : start < 1024) (most : count ≤ 102
       record {
         sum = ap (λ (p : Power). p .sum) e ∙ no-nan-sum re im start count .same ∙ ap noNanOf (summed-from re im start power64 count);
         plain = λ h.
-            let P = all-plain re im start count (told (powersTo re im start count) (ap arePlain (sym e) ∙ h)) in
+            let P = all-plain re im start count (told (powersTo re im start count) (ap plainOf (sym e) ∙ h)) in
             record { real = λ k l. P k l .0; imaginary = λ k l. P k l .1 };
       }
 
 -- ---- the test of the common case
-module _ (plain : Bool) (a : Float) (h : isCommon plain a ≡ true) where
+module _ (plain : Bool) (a : Float) (h : commonOf plain a ≡ true) where
   abbrev first-two : T (plain && le leastAmplitude a)
   first-two = and-l (plain && le leastAmplitude a) (le a mostAmplitude) (passes _ h)
 

@@ -4,7 +4,7 @@ ghost use mathlib.Core.Path.{_≡_};
 ghost use mathlib.Core.Bool.{true};
 ghost use Prim.Native.Nat.{_+_, _*_, _<_, _≤_, min};
 ghost use lib.ListN.{length};
-ghost use Rattle.signal.specs.Signal.{WrittenPoints, Read, freshPlace, admittedOf, rotatedOf, pairedOf, pushedOf, meanOf, missedBy, writtenOf, isUsable, readOf};
+ghost use Rattle.signal.specs.Signal.{WrittenPoints, Read, freshPlace, admittedOf, rotatedOf, pairedOf, pushedOf, meanOf, missedOf, writtenOf, usableOf, readOf};
 ghost use Rattle.signal.specs.Lends.{reads, leaves, readsPoints, leavesFloats};
 ghost use Rattle.signal.specs.Plain.{PlainRound, PlainAmplitude};
 ghost use Rattle.signal.specs.Powers.{PowerOf};
@@ -69,7 +69,7 @@ pub fn is_admitted(p: ViewPlace) -> bool
 
 // The symbol times the conjugate of the one before, turned by pi / 4: the turn that the receiver
 // took out is put back, so that the four points stand where the modulation has them.
-pub fn rotated(previous: Complex32, symbol: Complex32) -> Complex32
+fn rotated(previous: Complex32, symbol: Complex32) -> Complex32
     ensures { λ r. ⌜ r ≡ rotatedOf previous symbol ⌝ }
 {
     let product = complex::multiplied_conjugate(symbol, previous);
@@ -155,7 +155,7 @@ fn mean(sum: f64, count: usize) -> f64
 
 // The square of how far a part, whatever its sign, lies from the ideal.
 fn missed(part: f64) -> f64
-    ensures { λ r. ⌜ r ≡ missedBy part ⌝ }
+    ensures { λ r. ⌜ r ≡ missedOf part ⌝ }
 {
     let distance = abs(part) - IDEAL;
     distance * distance
@@ -257,7 +257,7 @@ fn write(
 
 // Whether there are points, and their mean power is finite and not under 1e-12.
 fn is_usable(count: usize, power: f64) -> bool
-    ensures { λ r. ⌜ r ≡ isUsable count power ⌝ }
+    ensures { λ r. ⌜ r ≡ usableOf count power ⌝ }
 {
     (count != 0) & is_finite(power) & !(power < 1e-12)
 }

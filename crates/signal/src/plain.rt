@@ -9,8 +9,8 @@ ghost use lib.Dec.{T};
 ghost use lib.Ieee.{binary32, binary64, div, isNan, fits};
 ghost use Rattle.laws.specs.Turns.{turns};
 ghost use Rattle.numbers.specs.Numbers.{absOf, convert};
-ghost use Rattle.signal.specs.Plain.{isPlain, Usual, PlainAmplitude, isCommon, errorFrom, runOf};
-ghost use Rattle.signal.specs.Powers.{noNanOf, spanOf, powerWith, powerStep, arePlain};
+ghost use Rattle.signal.specs.Plain.{isPlain, Usual, PlainAmplitude, commonOf, errorFrom, runOf};
+ghost use Rattle.signal.specs.Powers.{noNanOf, spanOf, withPointOf, powerStep, plainOf};
 use super::IDEAL;
 use super::POINTS;
 
@@ -60,7 +60,7 @@ pub struct Power {
 
 // One point more.
 fn with_point(power: Power, x: f32, y: f32) -> Power
-    ensures { λ r. ⌜ r ≡ powerWith power x y ⌝ }
+    ensures { λ r. ⌜ r ≡ withPointOf power x y ⌝ }
 {
     let a = no_nan(x);
     let b = no_nan(y);
@@ -95,14 +95,14 @@ pub fn power_run(
 
 // Whether every part is plain: none is too small, and the sum is not too large.
 pub fn are_plain(power: Power) -> bool
-    ensures { λ r. ⌜ r ≡ arePlain power ⌝ }
+    ensures { λ r. ⌜ r ≡ plainOf power ⌝ }
 {
     (power.across >= LEAST_SPAN) & (power.up >= LEAST_SPAN) & (power.sum <= MOST_SUM)
 }
 
 // Whether the parts are plain, and the amplitude too.
 pub fn is_common(plain: bool, amplitude: f64) -> bool
-    ensures { λ r. ⌜ r ≡ isCommon plain amplitude ⌝ }
+    ensures { λ r. ⌜ r ≡ commonOf plain amplitude ⌝ }
 {
     plain & (amplitude >= LEAST_AMPLITUDE) & (amplitude <= MOST_AMPLITUDE)
 }

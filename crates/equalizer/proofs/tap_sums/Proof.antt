@@ -2,7 +2,7 @@
 use Prim.Native.Nat.{_≤_, _-_}
 use mathlib.Core.Path.{_≡_, _∙_}
 use Rattle.laws.specs.Turns.{turns, turns-step, turns-none, turns-end}
-use Rattle.equalizer.specs.Equalizer.{rowOf, sumsTurn, noSums, sumsOf}
+use Rattle.equalizer.specs.Equalizer.{rowOf, sumsTurn, noSums, tapSumsOf}
 use borrow.Author.Needs.{needs}
 use Rattle.equalizer.proofs.tap_sums.Statement.{statement}
 use Rattle.equalizer.proofs.tap_sums.Tie as tie
@@ -73,7 +73,7 @@ loop-again c =
     (search needs, c .tapped .ensures ∙ turns-step _ _ _ _ (so-far .1))
 
 returns : tie.Need-returns Inv-loop μ-loop
-unfolding sumsOf
+unfolding tapSumsOf
 returns c = turns-end _ _ _ _ _ (c .before .loop .inv .1) (search needs) (search needs)
 
 pub tap-sums-spec : {M : Type 1} → statement M

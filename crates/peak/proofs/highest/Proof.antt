@@ -13,8 +13,8 @@ quarter-requires c κs = search needs
 quarter-requires-2 : tie.Need-quarter-requires-2
 quarter-requires-2 c κs = search needs
 
-over-requires : tie.Need-over-requires
-over-requires c κs = search needs
+top-requires : tie.Need-top-requires
+top-requires c κs = search needs
 
 quarter-requires-3 : tie.Need-quarter-requires-3
 quarter-requires-3 c κs = search needs
@@ -22,11 +22,11 @@ quarter-requires-3 c κs = search needs
 quarter-requires-4 : tie.Need-quarter-requires-4
 quarter-requires-4 c κs = search needs
 
-over-requires-2 : tie.Need-over-requires-2
-over-requires-2 c κs = search needs
+top-requires-2 : tie.Need-top-requires-2
+top-requires-2 c κs = search needs
 
-over-requires-3 : tie.Need-over-requires-3
-over-requires-3 c κs = search needs
+top-requires-3 : tie.Need-top-requires-3
+top-requires-3 c κs = search needs
 
 returns : tie.Need-returns
 returns c =
@@ -34,8 +34,8 @@ returns c =
     let is-quarter = c .before .before .before .before .before .before .before .before .before .quarter .ensures in
     let is-quarter2 = c .before .before .before .before .before .before .before .quarter2 .ensures in
     let is-quarter3 = c .before .before .before .before .quarter3 .ensures in
-    let is-low = c .before .before .before .before .before .before .over .ensures in
-    highest-of _ _ _ _ _ _ _ _ _ is-columns is-quarter is-quarter2 is-quarter3 (c .before .before .quarter4 .ensures) is-low (c .before .over2 .ensures) (c .over3 .ensures)
+    let is-low = c .before .before .before .before .before .before .top .ensures in
+    highest-of _ _ _ _ _ _ _ _ _ is-columns is-quarter is-quarter2 is-quarter3 (c .before .before .quarter4 .ensures) is-low (c .before .top2 .ensures) (c .top3 .ensures)
 
 pub highest-spec : {M : Type 1} → statement M
 highest-spec =
@@ -44,9 +44,9 @@ highest-spec =
     columns-requires
     quarter-requires
     quarter-requires-2
-    over-requires
+    top-requires
     quarter-requires-3
     quarter-requires-4
-    over-requires-2
-    over-requires-3
+    top-requires-2
+    top-requires-3
     returns)
