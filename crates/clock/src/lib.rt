@@ -56,7 +56,8 @@ pub fn fresh() -> ClockPlace
     }
 }
 
-// The counts of a cold or a warm clock.
+// Whether the counts are those of a cold clock (position 0, at most 82 samples) or of a warm one
+// (position 5 to 12, at most 100 samples more than that).
 fn counts_fit(c: ClockPlace) -> bool
     ensures { λ r. ⌜ r ≡ countsFit c ⌝ }
 {

@@ -29,7 +29,7 @@ fn ceiling(x: f32) -> usize
     whole as usize
 }
 
-// A phase below 0, and not below -16.
+// Brings a phase in -16..0 into range: it is raised by a turn of 32 arms.
 fn ranged_below(phase: f32) -> Arm
     requires { ⌜ PhaseFits phase ⌝ ∗ ⌜ Ieee.lt phase f0 ≡ true ⌝ }
     ensures same { λ r. ⌜ r ≡ rangedOf phase ⌝ }
@@ -43,7 +43,7 @@ fn ranged_below(phase: f32) -> Arm
     }
 }
 
-// A phase in -16..=48, or NaN.
+// Brings a phase in -16..=48 into 0..=32; a NaN stays, with arm 0.
 pub fn ranged(phase: f32) -> Arm
     requires { ⌜ PhaseFits phase ⌝ }
     ensures same { λ r. ⌜ r ≡ rangedOf phase ⌝ }

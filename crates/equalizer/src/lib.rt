@@ -12,7 +12,7 @@ use roots::sqrt32;
 // The weights, one for each window of the matched filter, half a symbol apart.
 pub const WEIGHTS: usize = 21;
 
-// The middle one.
+// The weight in the middle, which a fresh equalizer has at 1.
 const CENTRE: usize = 10;
 
 // Zero: adapting to a constant modulus made fading channels worse, and the detector that follows
@@ -61,6 +61,7 @@ fn tapped(s: Sums, w: Complex32, x: Complex32, dx: Complex32) -> Sums
     }
 }
 
+// The sums over all taps, from the first to the last.
 fn tap_sums(
     wr: &[f32; WEIGHTS],
     wi: &[f32; WEIGHTS],
@@ -133,6 +134,7 @@ fn norm(wr: &[f32; WEIGHTS], wi: &[f32; WEIGHTS]) -> f32
     sum
 }
 
+// Every weight times the gain.
 fn scale(wr: &mut [f32; WEIGHTS], wi: &mut [f32; WEIGHTS], gain: f32)
     ensures { λ r. ⌜ leaves wr wi (λ w after. after ≡ scaledBy gain w) ⌝ }
 {
@@ -154,18 +156,23 @@ fn limit(wr: &mut [f32; WEIGHTS], wi: &mut [f32; WEIGHTS])
     }
 }
 
+// How far the weights move: adaptation times 1 less the symbol's power, kept in -2..=1, over the
+// window's energy.
 fn step_of(power: f32, energy: f32) -> f32
     ensures { λ r. ⌜ r ≡ stepOf power energy ⌝ }
 {
     ADAPTATION * clamp32(1.0 - power, -2.0, 1.0) / energy
 }
 
+// Whether the weights move at all: the symbol is reliable, the energy is above 0.01, and energy and
+// power are finite.
 fn learns(reliable: bool, energy: f32, power: f32) -> bool
     ensures { λ r. ⌜ r ≡ learnsOf reliable energy power ⌝ }
 {
     reliable & (energy > 0.01) & is_finite32(energy) & is_finite32(power)
 }
 
+// The weights after a symbol: adapted and limited, or left as they are.
 fn update(
     wr: &mut [f32; WEIGHTS],
     wi: &mut [f32; WEIGHTS],

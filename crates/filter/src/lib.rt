@@ -14,8 +14,8 @@ use gather::arm_taps;
 use gather::every_second;
 use sums::four_sums;
 
-// The taps of the matched filter, and of its derivative: 32 arms, one after the other tap by tap, and
-// a last tap that arm 0 has alone.
+// The taps of the matched filter, or of its derivative: tap by tap the 32 arms in turn, and a last tap
+// that arm 0 has alone.
 pub const TAPS: usize = 1025;
 
 // The taps of one arm.

@@ -144,7 +144,7 @@ fn is_reliable(peak: f32, floor: f32) -> bool
     (peak > 1e-12) & (peak >= floor)
 }
 
-// What brings the peak, or the floor where that is larger, to 1.
+// What brings the peak to 1, or the floor or 1e-12 where that is larger.
 fn gain(peak: f32, floor: f32) -> f32
     ensures { λ r. ⌜ r ≡ gainOf peak floor ⌝ }
 {

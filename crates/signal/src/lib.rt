@@ -191,7 +191,8 @@ fn write_points(
     sum
 }
 
-// The same for plain parts and a plain amplitude: up to the ring's end, and then from its beginning.
+// Writes the same where parts and amplitude are plain: up to the ring's end, and then from its
+// beginning.
 fn write_plain(
     real: &[f32; POINTS],
     imaginary: &[f32; POINTS],
@@ -231,7 +232,7 @@ fn write_plain(
     )
 }
 
-// Either way, by whether the parts are plain.
+// Writes the points by rows where parts and amplitude are plain, and else one by one.
 fn write(
     real: &[f32; POINTS],
     imaginary: &[f32; POINTS],
