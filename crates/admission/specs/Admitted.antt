@@ -6,7 +6,7 @@ use lib.Dec.{ltb, leb}
 use lib.ListN.{getD}
 use Rattle.laws.specs.Turns.{turns}
 use Rattle.resampler.specs.Pass as resampler
-use Rattle.clock.specs.Clock.{admittedPlace}
+use Rattle.clock.specs.Clock as clock
 use Rattle.sequence.specs.declared.walk.Previous.{Previous}
 use Rattle.sequence.specs.declared.walk.Previous.the-variants.{Unknown, Symbol}
 use Rattle.carrier.specs.declared.CarrierPlace.{CarrierPlace}
@@ -38,7 +38,7 @@ detectorFits c = (leb (c .turn .alternation) 7 && (ltb (c .detector .write) 32 &
 -- of the clock: the place of its ring of 256, cold or warm, phase and rate
 unfoldable pub chainFits : ChainPlace → Bool
 chainFits c =
-    (ltb (c .keeper .head) 64 && (leb (c .keeper .fill) 64 && (ltb (c .view .head) 1024 && leb (c .view .count) 1024))) && (admittedPlace (c .clock) && detectorFits (c .carrier))
+    (ltb (c .keeper .head) 64 && (leb (c .keeper .fill) 64 && (ltb (c .view .head) 1024 && leb (c .view .count) 1024))) && (clock.admittedOf (c .clock) && detectorFits (c .carrier))
 
 -- stored parents below 64
 abbrev pub parentTurn : List ℕ → ℕ → Bool → Bool

@@ -6,7 +6,7 @@ use Prim.Native.Nat.{ℕ, _*_, _^_, _≤_, _<_}
 use lib.Dec.{ltb, leb}
 use borrow.Author.Tests.{le-leb, lt-leb}
 use Rattle.resampler.specs.Pass as resampler
-use Rattle.clock.specs.Clock.{admittedPlace}
+use Rattle.clock.specs.Clock as clock
 use Rattle.sequence.specs.declared.walk.Previous.{Previous}
 use Rattle.sequence.specs.declared.walk.Previous.the-variants.{Symbol}
 use Rattle.carrier.specs.declared.CarrierPlace.{CarrierPlace}
@@ -42,7 +42,7 @@ detector-is c b e = ap (λ (t : Bool). detectorRanges c && t) e
 abbrev pub chainRanges : ChainPlace → Bool
 chainRanges c = ltb (c .keeper .head) 64 && (leb (c .keeper .fill) 64 && (ltb (c .view .head) 1024 && leb (c .view .count) 1024))
 
-pub chain-is : (c : ChainPlace) (a b : Bool) → a ≡ admittedPlace (c .clock) → b ≡ detectorFits (c .carrier) → (chainRanges c && (a && b)) ≡ chainFits c
+pub chain-is : (c : ChainPlace) (a b : Bool) → a ≡ clock.admittedOf (c .clock) → b ≡ detectorFits (c .carrier) → (chainRanges c && (a && b)) ≡ chainFits c
 unfolding chainFits
 chain-is c a b d e = rw (d, e)
 

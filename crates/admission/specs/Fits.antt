@@ -8,7 +8,7 @@ use lib.ListN.{getD}
 use borrow.Author.Tests.{ltb-true, leb-true, lt-ltb, le-leb}
 use Rattle.resampler.specs.Pass as resampler
 use Rattle.resampler.specs.Ready.{Ready, admitted-ready, ready-admitted}
-use Rattle.clock.specs.Clock.{admittedPlace}
+use Rattle.clock.specs.Clock as Clock
 use Rattle.clock.specs.Ranges as clock
 use Rattle.clock.specs.AdmittedLaws.{admitted-facts, facts-admitted}
 use Rattle.sequence.specs.Walk.{Table, Earlier}
@@ -74,8 +74,8 @@ symbol-from (Symbol s) h = ltb-true s 4 h
 chain-from : (c : ChainPlace) → chainFits c ≡ true → ChainFits c
 unfolding chainFits detectorFits
 chain-from c h =
-    let t = and-true (chainRanges c) (admittedPlace (c .clock) && detectorFits (c .carrier)) h in
-    let u = and-true (admittedPlace (c .clock)) (detectorFits (c .carrier)) (t .1) in
+    let t = and-true (chainRanges c) (Clock.admittedOf (c .clock) && detectorFits (c .carrier)) h in
+    let u = and-true (Clock.admittedOf (c .clock)) (detectorFits (c .carrier)) (t .1) in
     let v = and-true (detectorRanges (c .carrier)) (symbolFits (c .carrier .detector .previous)) (u .1) in
     let a = and-true (ltb (c .keeper .head) 64) (leb (c .keeper .fill) 64 && (ltb (c .view .head) 1024 && leb (c .view .count) 1024)) (t .0) in
     let b = and-true (leb (c .keeper .fill) 64) (ltb (c .view .head) 1024 && leb (c .view .count) 1024) (a .1) in

@@ -61,7 +61,7 @@ fn chain_fits(c: ChainPlace) -> bool
     let view = c.view;
     let ranges = (keeper.head < 64)
         & ((keeper.fill <= 64) & ((view.head < 1024) & (view.count <= 1024)));
-    ranges & (clock::admitted(place) & detector_fits(carrier))
+    ranges & (clock::is_admitted(place) & detector_fits(carrier))
 }
 
 fn larger(a: u8, b: u8) -> u8

@@ -13,8 +13,8 @@ use borrow.Author.Tests.{le-leb, lt-leb}
 use Rattle.laws.specs.FloatOrder.{sign-times, le→, not-lt→le}
 use Rattle.laws.specs.FloatSums.{ends, in-finite}
 use Rattle.clock.specs.declared.ClockPlace.{ClockPlace}
-use Rattle.clock.specs.Clock.{within, countFits, admittedPlace, tenth, minusTenth}
-use Rattle.clock.specs.Ranges.{Within, f48, minus16, Admitted}
+use Rattle.clock.specs.Clock.{within, minus16, f48, countsFit, admittedOf, tenth, minusTenth}
+use Rattle.clock.specs.Ranges.{Within, Admitted}
 use Rattle.clock.specs.Update.{lt-nan}
 
 -- ---- a range: two comparisons that a NaN passes
@@ -75,8 +75,8 @@ within-to x low high p (inr i) =
     and-i (not (lt x low)) (not (lt high x)) (le-not x low X L (i .lower)) (le-not high x H X (i .upper))
 
 -- ---- the counts
-counts-from : (c : ClockPlace) → T (countFits c) → (c .warm ≡ false → (c .position ≡ 0) × (c .count ≤ 82)) × (c .warm ≡ true → (5 ≤ c .position) × (c .position ≤ 12) × (c .count ≤ 100 + c .position))
-unfolding countFits
+counts-from : (c : ClockPlace) → T (countsFit c) → (c .warm ≡ false → (c .position ≡ 0) × (c .count ≤ 82)) × (c .warm ≡ true → (5 ≤ c .position) × (c .position ≤ 12) × (c .count ≤ 100 + c .position))
+unfolding countsFit
 counts-from c t = go (c .warm) refl t
   where
     go : (w : Bool) → c .warm ≡ w → T (cond w (leb (c .position) 12 && (leb 5 (c .position) && leb (c .count) (100 + c .position))) (eqb (c .position) 0 && leb (c .count) 82))
@@ -93,8 +93,8 @@ counts-from c t = go (c .warm) refl t
     go false e t =
         (λ z. (eqb→eq (c .position) 0 (and-l (eqb (c .position) 0) (leb (c .count) 82) t), leb→le (c .count) 82 (and-r (eqb (c .position) 0) (leb (c .count) 82) t)), λ z. absurd (true≢false (sym z ∙ e)))
 
-counts-to : (c : ClockPlace) → (c .warm ≡ false → (c .position ≡ 0) × (c .count ≤ 82)) → (c .warm ≡ true → (5 ≤ c .position) × (c .position ≤ 12) × (c .count ≤ 100 + c .position)) → T (countFits c)
-unfolding countFits
+counts-to : (c : ClockPlace) → (c .warm ≡ false → (c .position ≡ 0) × (c .count ≤ 82)) → (c .warm ≡ true → (5 ≤ c .position) × (c .position ≤ 12) × (c .count ≤ 100 + c .position)) → T (countsFit c)
+unfolding countsFit
 counts-to c cold hot = go (c .warm) refl
   where
     go : (w : Bool) → c .warm ≡ w → T (cond w (leb (c .position) 12 && (leb 5 (c .position) && leb (c .count) (100 + c .position))) (eqb (c .position) 0 && leb (c .count) 82))
@@ -105,40 +105,40 @@ counts-to c cold hot = go (c .warm) refl
 abbrev pub floatsFit : ClockPlace → Bool
 floatsFit c = within (c .phase) minus16 f48 && within (c .rate) minusTenth tenth
 
-pub admitted-facts : (c : ClockPlace) → admittedPlace c ≡ true → Admitted c
+pub admitted-facts : (c : ClockPlace) → admittedOf c ≡ true → Admitted c
 unfolding ofBits
 admitted-facts c e =
-    let t : T (admittedPlace c) = rw e tt in
-    let r = and-r (ltb (c .start) 256) (countFits c && floatsFit c) t in
-    let f = and-r (countFits c) (floatsFit c) r in
-    let n = counts-from c (and-l (countFits c) (floatsFit c) r) in
+    let t : T (admittedOf c) = rw e tt in
+    let r = and-r (ltb (c .start) 256) (countsFit c && floatsFit c) t in
+    let f = and-r (countsFit c) (floatsFit c) r in
+    let n = counts-from c (and-l (countsFit c) (floatsFit c) r) in
     record {
-      start = ltb→lt (c .start) 256 (and-l (ltb (c .start) 256) (countFits c && floatsFit c) t);
+      start = ltb→lt (c .start) 256 (and-l (ltb (c .start) 256) (countsFit c && floatsFit c) t);
       cold = n .0;
       hot = n .1;
       phase = within-from (c .phase) minus16 f48 tt (and-l (within (c .phase) minus16 f48) (within (c .rate) minusTenth tenth) f);
       rate = within-from (c .rate) minusTenth tenth tt (and-r (within (c .phase) minus16 f48) (within (c .rate) minusTenth tenth) f);
     }
 
-pub facts-admitted : (c : ClockPlace) → Admitted c → admittedPlace c ≡ true
+pub facts-admitted : (c : ClockPlace) → Admitted c → admittedOf c ≡ true
 unfolding ofBits
-facts-admitted c a = is-true (admittedPlace c)
+facts-admitted c a = is-true (admittedOf c)
     (and-i (ltb (c .start) 256) _ (lt→ltb (c .start) 256 (a .start))
-    (and-i (countFits c) _ (counts-to c (a .cold) (a .hot))
+    (and-i (countsFit c) _ (counts-to c (a .cold) (a .hot))
     (and-i (within (c .phase) minus16 f48) _ (within-to (c .phase) minus16 f48 tt (a .phase)) (within-to (c .rate) minusTenth tenth tt (a .rate)))))
 
 -- ---- the test's ways out
-pub counts-warm : (c : ClockPlace) → c .warm ≡ true → c .position ≤ 12 → leb 5 (c .position) && leb (c .count) (100 + c .position) ≡ countFits c
-unfolding countFits
+pub counts-warm : (c : ClockPlace) → c .warm ≡ true → c .position ≤ 12 → leb 5 (c .position) && leb (c .count) (100 + c .position) ≡ countsFit c
+unfolding countsFit
 counts-warm c w h = rw (w, le-leb (c .position) 12 h)
 
-pub counts-beyond : (c : ClockPlace) → c .warm ≡ true → 12 < c .position → false ≡ countFits c
-unfolding countFits
+pub counts-beyond : (c : ClockPlace) → c .warm ≡ true → 12 < c .position → false ≡ countsFit c
+unfolding countsFit
 counts-beyond c w h = rw (w, lt-leb (c .position) 12 h)
 
-pub counts-cold : (c : ClockPlace) → c .warm ≡ false → eqb (c .position) 0 && leb (c .count) 82 ≡ countFits c
-unfolding countFits
+pub counts-cold : (c : ClockPlace) → c .warm ≡ false → eqb (c .position) 0 && leb (c .count) 82 ≡ countsFit c
+unfolding countsFit
 counts-cold c w = rw w
 
-pub admitted-is : (c : ClockPlace) (b : Bool) → b ≡ countFits c → ltb (c .start) 256 && (b && floatsFit c) ≡ admittedPlace c
+pub admitted-is : (c : ClockPlace) (b : Bool) → b ≡ countsFit c → ltb (c .start) 256 && (b && floatsFit c) ≡ admittedOf c
 admitted-is c b e = ap (λ (b : Bool). ltb (c .start) 256 && (b && floatsFit c)) e

@@ -15,8 +15,8 @@ use Rattle.laws.specs.Ring.{lt-or-ge}
 use Rattle.laws.specs.FloatOrder.{le→}
 use Rattle.laws.specs.FloatSums.{In, in-finite}
 use Rattle.numbers.specs.Numbers.{wholeOf, downward}
-use Rattle.clock.specs.Clock.{armOf, thirtyTwo}
-use Rattle.clock.specs.Ranges.{f0, f16, f48, minus16}
+use Rattle.clock.specs.Clock.{armNumberOf, sixteen, thirtyTwo, minus16, f48}
+use Rattle.clock.specs.Ranges.{f0, Ceiling}
 
 -- ---- a whole number up to 48 is an f32
 exact-value : (s : Bool) (q : ℕ) → q ≤ 48 → HasValue (round binary32 s q 1) s q 1
@@ -38,12 +38,12 @@ cast-value (fin t m e) s q h v =
     go true = let k : q ≤ 2 ^ 31 = omega arith in ap (λ (z : ℕ). negℤ (pos z)) (min-eq-left k)
     go false = let k : q ≤ 2 ^ 31 - 1 = omega arith in ap pos (min-eq-left k)
 
-arm-value : (s : Bool) (m : ℕ) (e : ℤ) → downward s (m * up e) (down e) ≤ 48 → armOf (fin s m e) ≡ cond s (negℤ (pos (downward s (m * up e) (down e)))) (pos (downward s (m * up e) (down e)))
-unfolding armOf wholeOf
+arm-value : (s : Bool) (m : ℕ) (e : ℤ) → downward s (m * up e) (down e) ≤ 48 → armNumberOf (fin s m e) ≡ cond s (negℤ (pos (downward s (m * up e) (down e)))) (pos (downward s (m * up e) (down e)))
+unfolding armNumberOf wholeOf
 arm-value s m e h = cast-value (round binary32 s (downward s (m * up e) (down e)) 1) s (downward s (m * up e) (down e)) h (exact-value s (downward s (m * up e) (down e)) h)
 
-pub arm-nan : armOf nan ≡ pos 0
-unfolding armOf wholeOf toSigned
+pub arm-nan : armNumberOf nan ≡ pos 0
+unfolding armNumberOf wholeOf toSigned
 arm-nan = refl
 
 cut : (w : ℕ) → w ≤ 48 → min w (2 ^ 64 - 1) ≡ w
@@ -53,7 +53,7 @@ cut w h = let k : w ≤ 2 ^ 64 - 1 = omega arith in min-eq-left k
 pub record High (p : Float) (w : ℕ) : Type 0 where
   pub least : 32 ≤ w
   pub most : w ≤ 48
-  pub arm : armOf p ≡ pos w
+  pub arm : armNumberOf p ≡ pos w
 
 pub high-from : (p : Float) → In minus16 f48 p → T (le thirtyTwo p) → (w : ℕ) → w ≡ toUnsigned 64 p → High p w
 unfolding toUnsigned ofBits
@@ -80,7 +80,7 @@ high-from (fin false m e) i h w q =
 -- ---- 0 to 32
 pub record Middle (p : Float) (w : ℕ) : Type 0 where
   pub most : w < 32
-  pub arm : armOf p ≡ pos w
+  pub arm : armNumberOf p ≡ pos w
 
 pub middle-from : (p : Float) → T (not (lt p f0)) → T (lt p thirtyTwo) → (w : ℕ) → w ≡ toUnsigned 64 p → Middle p w
 unfolding toUnsigned lt ofBits
@@ -104,26 +104,21 @@ middle-from (fin false m e) h k w q =
     go a D k = omega arith
 
 -- ---- below 0: x is the phase's negative, c the smallest whole number that is not below x
-pub record Ceiling (x : Float) (c : ℕ) : Type 0 where
-  pub most : c ≤ 16
-  pub reached : num x ≤ c * den x
-  pub arm : armOf (neg x) ≡ negℤ (pos c)
-
-top16 : (m : ℕ) (e : ℤ) → In f0 f16 (fin false m e) → m * up e ≤ down e * 16
+top16 : (m : ℕ) (e : ℤ) → In f0 sixteen (fin false m e) → m * up e ≤ down e * 16
 unfolding ofBits
-top16 m e i = go (m * up e) (down e) (le→ (fin false m e) f16 tt tt (i .upper))
+top16 m e i = go (m * up e) (down e) (le→ (fin false m e) sixteen tt tt (i .upper))
   where
     go : (a D : ℕ) → a * 1 + 0 * D ≤ 1 * up (pos 4) * D + 0 * 1 → a ≤ D * 16
     go a D k = omega arith
 
-whole-is : (m : ℕ) (e : ℤ) → In f0 f16 (fin false m e) → (m * up e / down e ≤ 16) × (toUnsigned 64 (fin false m e) ≡ m * up e / down e)
+whole-is : (m : ℕ) (e : ℤ) → In f0 sixteen (fin false m e) → (m * up e / down e ≤ 16) × (toUnsigned 64 (fin false m e) ≡ m * up e / down e)
 unfolding toUnsigned
 whole-is m e i = let b : m * up e / down e ≤ 16 = div-le-of-le-mul (down e) (top16 m e i) in (b, cut (m * up e / down e) (omega arith))
 
-pub whole-most : (x : Float) → In f0 f16 x → toUnsigned 64 x ≤ 16
+pub whole-most : (x : Float) → In f0 sixteen x → toUnsigned 64 x ≤ 16
 unfolding toUnsigned ofBits
-whole-most nan i = absurd (in-finite f0 f16 nan tt tt i)
-whole-most (inf s) i = absurd (in-finite f0 f16 (inf s) tt tt i)
+whole-most nan i = absurd (in-finite f0 sixteen nan tt tt i)
+whole-most (inf s) i = absurd (in-finite f0 sixteen (inf s) tt tt i)
 whole-most (fin true m e) i = zero-le
 whole-most (fin false m e) i = let w = whole-is m e i in rw (w .1) (w .0)
 
@@ -207,7 +202,7 @@ minus-zero m e h = go (m * up e) (down e) (le→ f0 (fin true m e) tt tt h)
     go : (a D : ℕ) → 0 * up (pos 0) * D + a * 1 ≤ 0 * 1 + 0 * D → a ≡ 0
     go a D k = omega arith
 
-module _ (x y : Float) (w : ℕ) (i : In f0 f16 x) (e : w ≡ toUnsigned 64 x) (q : y ≡ ofInt binary32 (pos w)) where
+module _ (x y : Float) (w : ℕ) (i : In f0 sixteen x) (e : w ≡ toUnsigned 64 x) (q : y ≡ ofInt binary32 (pos w)) where
   small : w ≤ 16
   small = rw e (whole-most x i)
 
@@ -218,10 +213,10 @@ ceiling-of : (m : ℕ) (d : ℤ) (c : ℕ) → c ≤ 16 → m * up d ≤ c * dow
 unfolding neg
 ceiling-of m d c h r e = record { most = h; reached = r; arm = arm-value true m d (rw e (omega arith)) ∙ ap (λ (n : ℕ). negℤ (pos n)) e }
 
-pub ceiling-up : (x y : Float) (w : ℕ) → In f0 f16 x → w ≡ toUnsigned 64 x → y ≡ ofInt binary32 (pos w) → lt y x ≡ true → Ceiling x (w + 1)
+pub ceiling-up : (x y : Float) (w : ℕ) → In f0 sixteen x → w ≡ toUnsigned 64 x → y ≡ ofInt binary32 (pos w) → lt y x ≡ true → Ceiling x (w + 1)
 unfolding ofBits
-ceiling-up nan y w i e q h = absurd (in-finite f0 f16 nan tt tt i)
-ceiling-up (inf s) y w i e q h = absurd (in-finite f0 f16 (inf s) tt tt i)
+ceiling-up nan y w i e q h = absurd (in-finite f0 sixteen nan tt tt i)
+ceiling-up (inf s) y w i e q h = absurd (in-finite f0 sixteen (inf s) tt tt i)
 ceiling-up (fin true m d) y w i e q h = absurd (none-below y w m d (near (fin true m d) y w i e q) (rw h tt))
 ceiling-up (fin false m d) y w i e q h =
     let l : w * down d < m * up d = near-lt y w m d (near (fin false m d) y w i e q) (rw h tt) in
@@ -230,10 +225,10 @@ ceiling-up (fin false m d) y w i e q h =
     fits : w * down d < m * up d → m * up d ≤ down d * 16 → w + 1 ≤ 16
     fits l u = ⊎-elim (λ (z : w < 16). omega arith) (λ (g : 16 ≤ w). let r : 16 * down d ≤ w * down d = mul-le-mul-right (down d) g in absurd (omega arith)) (lt-or-ge w 16)
 
-pub ceiling-not : (x y : Float) (w : ℕ) → In f0 f16 x → w ≡ toUnsigned 64 x → y ≡ ofInt binary32 (pos w) → lt y x ≡ false → Ceiling x w
+pub ceiling-not : (x y : Float) (w : ℕ) → In f0 sixteen x → w ≡ toUnsigned 64 x → y ≡ ofInt binary32 (pos w) → lt y x ≡ false → Ceiling x w
 unfolding ofBits neg toUnsigned
-ceiling-not nan y w i e q h = absurd (in-finite f0 f16 nan tt tt i)
-ceiling-not (inf s) y w i e q h = absurd (in-finite f0 f16 (inf s) tt tt i)
+ceiling-not nan y w i e q h = absurd (in-finite f0 sixteen nan tt tt i)
+ceiling-not (inf s) y w i e q h = absurd (in-finite f0 sixteen (inf s) tt tt i)
 ceiling-not (fin true m d) y w i e q h =
     let z = minus-zero m d (i .lower) in
     let n : downward false (m * up d) (down d) ≡ 0 = rw (z, zero-div (down d)) in

@@ -1,5 +1,5 @@
 -- The place after a symbol in closed form, the clock's ways out, and the clock's theorems: the ring's assertion holds, the first place is never negative,
--- the count covers what is dropped, and what document 01 admits stays admitted. Assumes nothing.
+-- the count covers what is dropped, and what is admitted stays admitted. Assumes nothing.
 use Prim.Native.Nat.{ℕ, zero, suc, _+_, _*_, _-_, _%_, _≤_, _<_}
 use native.Mathlib.Nat.{mod-lt, mod-add-mod, mod-eq-of-lt}
 use native.Mathlib.Omega.{arith}
@@ -20,11 +20,11 @@ use Rattle.numbers.specs.Numbers.{clampOf}
 use Rattle.complex.specs.declared.Complex32.{Complex32}
 use Rattle.filter.specs.Filter.{Windows, matchedOf}
 use Rattle.clock.specs.declared.ClockPlace.{ClockPlace}
-use Rattle.clock.specs.declared.Answer.{Answer}
-use Rattle.clock.specs.declared.Answer.the-variants.{NoSymbol, Symbol}
+use Rattle.clock.specs.declared.Due.{Due}
+use Rattle.clock.specs.declared.Due.the-variants.{NoSymbol, Symbol}
 use Rattle.clock.specs.declared.Stepped.{Stepped}
-use Rattle.clock.specs.Clock.{freshPlace, thirtyTwo, rangedOf, dropOne, droppedOf, negative, atLeast0, firstOf, waitingOf, warmOf, takenOf, warmedOf, answerOf, windowsOf, Run, runOf, steppedOf, tenth, minusTenth, Moving, moveTurn, movedOf, updatedOf}
-use Rattle.clock.specs.Ranges.{f0, f48, minus16, PhaseFits, PhaseTurned, ErrorFits, Admitted, Taken, After}
+use Rattle.clock.specs.Clock.{freshPlace, thirtyTwo, minus16, f48, turningOf, dropOne, droppedOf, negative, atLeast0, firstOf, waitingOf, timedWarmOf, takenOf, warmedOf, timedOf, windowsOf, Ticked, tickedOf, Run, runOf, steppedOf, tenth, minusTenth, Moving, moveTurn, movedOf, updatedOf}
+use Rattle.clock.specs.Ranges.{f0, PhaseFits, PhaseTurned, ErrorFits, Admitted, Taken, After}
 use Rattle.clock.specs.Ranged.{Same, Found, found}
 use Rattle.clock.specs.Update.{moved-fits}
 
@@ -74,13 +74,13 @@ dropped-is p r s n q d l e = ⊎-elim
     (lt-or-ge q 12)
 
 -- ---- where the first window begins
-first-is : (c : ClockPlace) (p : Float) (arm a : ℕ) → Same p arm a (rangedOf (c .phase)) → 1 ≤ c .position → firstOf c ≡ pos (c .position + a - 1)
+first-is : (c : ClockPlace) (p : Float) (arm a : ℕ) → Same p arm a (turningOf (c .phase)) → 1 ≤ c .position → firstOf c ≡ pos (c .position + a - 1)
 unfolding firstOf
 first-is c p arm a s h =
     let e : c .position - 1 + 1 ≡ c .position = omega arith in
     let f : c .position - 1 + a ≡ c .position + a - 1 = omega arith in
-    ap (λ (z : ℕ). pos z +ℤ rangedOf (c .phase) .shift) (sym e)
-    ∙ +ℤ-assoc (pos (c .position - 1)) (pos 1) (rangedOf (c .phase) .shift)
+    ap (λ (z : ℕ). pos z +ℤ turningOf (c .phase) .shift) (sym e)
+    ∙ +ℤ-assoc (pos (c .position - 1)) (pos 1) (turningOf (c .phase) .shift)
     ∙ ap (λ (z : ℤ). pos (c .position - 1) +ℤ z) (s .shifts)
     ∙ ap pos f
 
@@ -88,45 +88,45 @@ first-is c p arm a s h =
 abbrev symbolWith : ClockPlace → ℤ → Float → ℤ → Stepped
 symbolWith c first phase arm = record {
   place = droppedOf (record { start = c .start; count = c .count; position = atLeast0 (first +ℤ pos 4); warm = true; phase = phase; rate = c .rate });
-  answer = Symbol (natAbs arm) ((c .start + natAbs first) % 256);
+  due = Symbol (natAbs arm) ((c .start + natAbs first) % 256);
 }
 
 abbrev warmWith : ClockPlace → ℤ → Float → ℤ → Stepped
 warmWith c first phase arm = cond (negative first || ltb (c .count) (natAbs first + 33 + 2 * 20)) (waitingOf c) (symbolWith c first phase arm)
 
-warm-with : (c : ClockPlace) (f : ℤ) (p : Float) (a : ℤ) → firstOf c ≡ f → rangedOf (c .phase) .phase ≡ p → rangedOf (c .phase) .arm ≡ a → warmOf c ≡ warmWith c f p a
-unfolding warmOf
-warm-with c f p a e1 e2 e3 = ap (λ (z : ℤ). warmWith c z (rangedOf (c .phase) .phase) (rangedOf (c .phase) .arm)) e1 ∙ ap₂ (warmWith c f) e2 e3
+warm-with : (c : ClockPlace) (f : ℤ) (p : Float) (a : ℤ) → firstOf c ≡ f → turningOf (c .phase) .phase ≡ p → turningOf (c .phase) .arm ≡ a → timedWarmOf c ≡ warmWith c f p a
+unfolding timedWarmOf
+warm-with c f p a e1 e2 e3 = ap (λ (z : ℤ). warmWith c z (turningOf (c .phase) .phase) (turningOf (c .phase) .arm)) e1 ∙ ap₂ (warmWith c f) e2 e3
 
-module _ (c : ClockPlace) (p : Float) (arm a n : ℕ) (s : Same p arm a (rangedOf (c .phase))) (h : 1 ≤ c .position) (e : n ≡ c .position + a - 1) where
-  warm-at : warmWith c (pos n) p (pos arm) ≡ warmOf c
+module _ (c : ClockPlace) (p : Float) (arm a n : ℕ) (s : Same p arm a (turningOf (c .phase))) (h : 1 ≤ c .position) (e : n ≡ c .position + a - 1) where
+  warm-at : warmWith c (pos n) p (pos arm) ≡ timedWarmOf c
   warm-at = sym (warm-with c (pos n) p (pos arm) (first-is c p arm a s h ∙ ap pos (sym e)) (sym (s .phases)) (s .arms))
 
-  pub warm-not : c .count < n + 73 → waitingOf c ≡ warmOf c
+  pub warm-not : c .count < n + 73 → waitingOf c ≡ timedWarmOf c
   warm-not l =
       let k : ltb (c .count) (n + 33 + 2 * 20) ≡ true = lt-ltb (c .count) (n + 33 + 2 * 20) (omega arith) in
       cond-yes (ltb (c .count) (n + 33 + 2 * 20)) (waitingOf c) (symbolWith c (pos n) p (pos arm)) k ∙ warm-at
 
   pub warm-due : (z : ClockPlace) → n + 73 ≤ c .count → z ≡ droppedOf (placed p (c .rate) (c .start) (c .count) (n + 4))
-      → _≡_ {A = Stepped} (record { place = z; answer = Symbol arm ((c .start + n) % 256) }) (warmOf c)
+      → _≡_ {A = Stepped} (record { place = z; due = Symbol arm ((c .start + n) % 256) }) (timedWarmOf c)
   warm-due z l q =
       let k : ltb (c .count) (n + 33 + 2 * 20) ≡ false = le-ltb (c .count) (n + 33 + 2 * 20) (omega arith) in
-      ap (λ (z : ClockPlace). record { place = z; answer = Symbol arm ((c .start + n) % 256) }) q
+      ap (λ (z : ClockPlace). record { place = z; due = Symbol arm ((c .start + n) % 256) }) q
       ∙ cond-no (ltb (c .count) (n + 33 + 2 * 20)) (waitingOf c) (symbolWith c (pos n) p (pos arm)) _ k refl
       ∙ warm-at
 
 -- ---- the three ways out of a clock that has taken its sample
-pub answer-hot : (c : ClockPlace) → c .warm ≡ true → warmOf c ≡ answerOf c
-unfolding answerOf
-answer-hot c w = rw w
+pub timed-hot : (c : ClockPlace) → c .warm ≡ true → timedWarmOf c ≡ timedOf c
+unfolding timedOf
+timed-hot c w = rw w
 
-pub answer-cold : (c : ClockPlace) → c .warm ≡ false → c .count < 83 → waitingOf c ≡ answerOf c
-unfolding answerOf
-answer-cold c w l = let k : ltb (c .count) (6 + 33 + 4 + 2 * 20) ≡ true = lt-ltb (c .count) 83 l in rw (w, k)
+pub timed-cold : (c : ClockPlace) → c .warm ≡ false → c .count < 83 → waitingOf c ≡ timedOf c
+unfolding timedOf
+timed-cold c w l = let k : ltb (c .count) (6 + 33 + 4 + 2 * 20) ≡ true = lt-ltb (c .count) 83 l in rw (w, k)
 
-pub answer-first : (c : ClockPlace) → c .warm ≡ false → 83 ≤ c .count → warmOf (warmedOf c) ≡ answerOf c
-unfolding answerOf
-answer-first c w l = let k : ltb (c .count) (6 + 33 + 4 + 2 * 20) ≡ false = le-ltb (c .count) 83 l in rw (w, k)
+pub timed-first : (c : ClockPlace) → c .warm ≡ false → 83 ≤ c .count → timedWarmOf (warmedOf c) ≡ timedOf c
+unfolding timedOf
+timed-first c w l = let k : ltb (c .count) (6 + 33 + 4 + 2 * 20) ≡ false = le-ltb (c .count) 83 l in rw (w, k)
 
 -- ---- THE RING'S ASSERTION holds at every admitted place
 pub assertion-holds : (c : ClockPlace) → Admitted c → c .count < 256
@@ -186,12 +186,12 @@ kept-due c t p n a d k e f l w =
     record { start = mod-lt (c .start + d) (omega arith); cold = λ z. absurd (true≢false z); hot = λ z. (omega arith, omega arith, omega arith); phase = turned-fits p w; rate = t .rate }
 
 abbrev AfterAll : Stepped → Type 0
-AfterAll s = After (s .answer) (s .place)
+AfterAll s = After (s .due) (s .place)
 
-warm-kept : (c : ClockPlace) → Taken c → AfterAll (warmOf c)
+warm-kept : (c : ClockPlace) → Taken c → AfterAll (timedWarmOf c)
 warm-kept c t = go (found (c .phase) (t .phase))
   where
-    go : Found (c .phase) → AfterAll (warmOf c)
+    go : Found (c .phase) → AfterAll (timedWarmOf c)
     go r =
         let n = c .position + r .ahead - 1 in
         let x = t .least in
@@ -206,16 +206,16 @@ warm-kept c t = go (found (c .phase) (t .phase))
         (lt-or-ge (c .count) (n + 73))
 
 -- ADMITTED IN, ADMITTED OUT: a step
-pub answer-kept : (c : ClockPlace) → Admitted c → AfterAll (answerOf (takenOf c))
-answer-kept c f = go (c .warm) refl
+pub timed-kept : (c : ClockPlace) → Admitted c → AfterAll (timedOf (takenOf c))
+timed-kept c f = go (c .warm) refl
   where
-    go : (b : Bool) → c .warm ≡ b → AfterAll (answerOf (takenOf c))
-    go true w = subst AfterAll (answer-hot (takenOf c) w) (warm-kept (takenOf c) (taken-hot c f w))
+    go : (b : Bool) → c .warm ≡ b → AfterAll (timedOf (takenOf c))
+    go true w = subst AfterAll (timed-hot (takenOf c) w) (warm-kept (takenOf c) (taken-hot c f w))
     go false w = ⊎-elim
         (λ (l : c .count + 1 < 83).
-        subst AfterAll (answer-cold (takenOf c) w l)
+        subst AfterAll (timed-cold (takenOf c) w l)
         (record { start = f .start; cold = λ z. (f .cold w .0, omega arith); hot = λ z. absurd (true≢false (sym z ∙ w)); phase = f .phase; rate = f .rate }))
-        (λ (g : 83 ≤ c .count + 1). subst AfterAll (answer-first (takenOf c) w g) (warm-kept (warmedOf (takenOf c)) (taken-first c f w)))
+        (λ (g : 83 ≤ c .count + 1). subst AfterAll (timed-first (takenOf c) w g) (warm-kept (warmedOf (takenOf c)) (taken-first c f w)))
         (lt-or-ge (c .count + 1) 83)
 
 -- and an update after a symbol
@@ -225,17 +225,17 @@ update-kept c e f p i =
     let k = moved-fits e (record { rate = c .rate; phase = c .phase }) i (f .rate) p in
     record { start = f .start; cold = f .cold; hot = f .hot; phase = k .1; rate = k .0 }
 
--- so a step, with an update after a symbol, keeps document 01's ranges
-abbrev pub followedOf : Answer → ClockPlace → Float → ClockPlace
+-- so a step, with an update after a symbol, keeps the admitted ranges
+abbrev pub followedOf : Due → ClockPlace → Float → ClockPlace
 followedOf NoSymbol c e = c
 followedOf (Symbol arm from) c e = updatedOf c e
 
-pub followed-kept : (a : Answer) (c : ClockPlace) (e : Float) → After a c → ErrorFits e → Admitted (followedOf a c e)
+pub followed-kept : (a : Due) (c : ClockPlace) (e : Float) → After a c → ErrorFits e → Admitted (followedOf a c e)
 followed-kept NoSymbol c e h i = h
 followed-kept (Symbol arm from) c e h i = update-kept c e (h .0) (h .1) i
 
-pub step-update-kept : (c : ClockPlace) (e : Float) → Admitted c → ErrorFits e → Admitted (followedOf (answerOf (takenOf c) .answer) (answerOf (takenOf c) .place) e)
-step-update-kept c e f i = followed-kept (answerOf (takenOf c) .answer) (answerOf (takenOf c) .place) e (answer-kept c f) i
+pub step-update-kept : (c : ClockPlace) (e : Float) → Admitted c → ErrorFits e → Admitted (followedOf (timedOf (takenOf c) .due) (timedOf (takenOf c) .place) e)
+step-update-kept c e f i = followed-kept (timedOf (takenOf c) .due) (timedOf (takenOf c) .place) e (timed-kept c f) i
 
 pub fresh-admitted : Admitted freshPlace
 unfolding le ofBits
@@ -247,39 +247,31 @@ fresh-admitted = record {
   rate = inr (record { lower = tt; upper = tt });
 }
 
--- ---- a sample into the ring, and the windows after the answer
-pub record Pushed : Type 0 where
-  pub stepped : Stepped
-  pub real : List Float
-  pub imaginary : List Float
+-- ---- a sample into the ring, and the windows after it
+pub ticked-is : (c : ClockPlace) (z : Complex32) (re im : List Float) (at : ℕ) (s : Stepped) → at ≡ (c .start + c .count) % 256 → s ≡ timedOf (takenOf c)
+    → _≡_ {A = Ticked} (record { stepped = s; real = set re at (z .real); imaginary = set im at (z .imaginary) }) (tickedOf c z re im)
+unfolding tickedOf
+ticked-is c z re im at s e q = rw (e, q)
 
-unfoldable pub pushedOf : ClockPlace → Complex32 → List Float → List Float → Pushed
-pushedOf c z re im = record { stepped = answerOf (takenOf c); real = set re ((c .start + c .count) % 256) (z .real); imaginary = set im ((c .start + c .count) % 256) (z .imaginary) }
-
-pub pushed-is : (c : ClockPlace) (z : Complex32) (re im : List Float) (at : ℕ) (s : Stepped) → at ≡ (c .start + c .count) % 256 → s ≡ answerOf (takenOf c)
-    → _≡_ {A = Pushed} (record { stepped = s; real = set re at (z .real); imaginary = set im at (z .imaginary) }) (pushedOf c z re im)
-unfolding pushedOf
-pushed-is c z re im at s e q = rw (e, q)
-
-pub after-of : (c : ClockPlace) (s : Stepped) → Admitted c → s ≡ answerOf (takenOf c) → After (s .answer) (s .place)
-after-of c s f e = subst AfterAll (sym e) (answer-kept c f)
+pub after-of : (c : ClockPlace) (s : Stepped) → Admitted c → s ≡ timedOf (takenOf c) → After (s .due) (s .place)
+after-of c s f e = subst AfterAll (sym e) (timed-kept c f)
 
 module _ (taps derivatives : List Float) (c : ClockPlace) (z : Complex32) (re im : List Float) (before : Windows) (s : Stepped) (real imaginary : List Float)
-    (e : _≡_ {A = Pushed} (record { stepped = s; real = real; imaginary = imaginary }) (pushedOf c z re im)) where
-  run-is : (w : Windows) → w ≡ windowsOf (s .answer) taps derivatives real imaginary before
+    (e : _≡_ {A = Ticked} (record { stepped = s; real = real; imaginary = imaginary }) (tickedOf c z re im)) where
+  run-is : (w : Windows) → w ≡ windowsOf (s .due) taps derivatives real imaginary before
       → _≡_ {A = Run} (record { stepped = s; real = real; imaginary = imaginary; windows = w }) (steppedOf taps derivatives c z re im before)
-  unfolding steppedOf pushedOf
-  run-is w h = ap (λ (w : Windows). record { stepped = s; real = real; imaginary = imaginary; windows = w }) h ∙ ap (λ (p : Pushed). runOf (p .stepped) taps derivatives (p .real) (p .imaginary) before) e
+  unfolding steppedOf tickedOf
+  run-is w h = ap (λ (w : Windows). record { stepped = s; real = real; imaginary = imaginary; windows = w }) h ∙ ap (λ (p : Ticked). runOf (p .stepped) taps derivatives (p .real) (p .imaginary) before) e
 
-  pub run-waiting : s .answer ≡ NoSymbol → _≡_ {A = Run} (record { stepped = s; real = real; imaginary = imaginary; windows = before }) (steppedOf taps derivatives c z re im before)
-  run-waiting a = run-is before (ap (λ (a : Answer). windowsOf a taps derivatives real imaginary before) (sym a))
+  pub run-waiting : s .due ≡ NoSymbol → _≡_ {A = Run} (record { stepped = s; real = real; imaginary = imaginary; windows = before }) (steppedOf taps derivatives c z re im before)
+  run-waiting a = run-is before (ap (λ (a : Due). windowsOf a taps derivatives real imaginary before) (sym a))
 
-  pub run-symbol : (arm from : ℕ) (w : Windows) → s .answer ≡ Symbol arm from → w ≡ matchedOf taps derivatives real imaginary arm from
+  pub run-symbol : (arm from : ℕ) (w : Windows) → s .due ≡ Symbol arm from → w ≡ matchedOf taps derivatives real imaginary arm from
       → _≡_ {A = Run} (record { stepped = s; real = real; imaginary = imaginary; windows = w }) (steppedOf taps derivatives c z re im before)
-  run-symbol arm from w a h = run-is w (h ∙ ap (λ (a : Answer). windowsOf a taps derivatives real imaginary before) (sym a))
+  run-symbol arm from w a h = run-is w (h ∙ ap (λ (a : Due). windowsOf a taps derivatives real imaginary before) (sym a))
 
--- the place and the answer of a step turn on the place alone
-pub stepped-place : (taps derivatives : List Float) (c : ClockPlace) (z : Complex32) (re im : List Float) (before : Windows) → steppedOf taps derivatives c z re im before .stepped ≡ answerOf (takenOf c)
+-- the place and what is due turn on the place alone
+pub stepped-place : (taps derivatives : List Float) (c : ClockPlace) (z : Complex32) (re im : List Float) (before : Windows) → steppedOf taps derivatives c z re im before .stepped ≡ timedOf (takenOf c)
 unfolding steppedOf
 stepped-place taps derivatives c z re im before = refl
 
@@ -294,5 +286,5 @@ update-is c e p r h k q a b w =
     (ap (λ (m : Moving). m .phase) y) (w ∙ ap (λ (m : Moving). clampOf (m .rate) minusTenth tenth) y)
 
 -- the filter may be run for a symbol
-pub after-symbol : (a : Answer) (p : ClockPlace) (arm from : ℕ) → a ≡ Symbol arm from → After a p → (arm < 32) × (from < 256)
-after-symbol a p arm from e h = let k = subst (λ (z : Answer). After z p) e h in (k .2, k .3)
+pub after-symbol : (a : Due) (p : ClockPlace) (arm from : ℕ) → a ≡ Symbol arm from → After a p → (arm < 32) × (from < 256)
+after-symbol a p arm from e h = let k = subst (λ (z : Due). After z p) e h in (k .2, k .3)

@@ -1,5 +1,6 @@
 pub mod Clock
 pub mod Ranges
+pub mod Lends
 pub mod Floor
 pub mod Ranged
 pub mod Update

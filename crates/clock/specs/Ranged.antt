@@ -1,7 +1,7 @@
 -- The two loops that bring the phase into range turn at most once from an admitted phase: what the code's closed form makes is what they make. Assumes nothing.
 use Prim.Native.Nat.{ℕ, zero, suc, _+_, _*_, _-_, _^_, _≤_, _<_}
 use native.Mathlib.Omega.{arith}
-use mathlib.Core.Path.{_≡_, refl, sym, ap, _∙_}
+use mathlib.Core.Path.{_≡_, refl, sym, ap, _∙_, subst}
 use mathlib.Core.Logic.{inl, inr}
 use mathlib.Core.Bool.{Bool, true, false, not, true≢false}
 use lib.Dec.{T, ltb, ltb→lt, lt→ltb}
@@ -13,9 +13,10 @@ use borrow.Author.Tests.{le-ltb, le-leb, lt-leb}
 use Rattle.laws.specs.Turns.{until, until-stop, until-turn}
 use Rattle.laws.specs.FloatOrder.{le→, →le, lt→le, not-lt→le}
 use Rattle.laws.specs.FloatSums.{In, in-finite, add-in, sub-in, in-wider}
-use Rattle.clock.specs.Clock.{armOf, Turning, thirtyTwo, tooHigh, negative, lowered, raised, loweredOf, raisedOf, rangedOf}
-use Rattle.clock.specs.Ranges.{f0, f16, f48, minus16, PhaseFits, PhaseTurned}
-use Rattle.clock.specs.Floor.{arm-nan, High, high-from, middle-from, Ceiling, minus-zero, ceiling-up, ceiling-not}
+use Rattle.clock.specs.declared.phase.Arm.{Arm}
+use Rattle.clock.specs.Clock.{armNumberOf, Turning, sixteen, thirtyTwo, minus16, f48, tooHigh, negative, lowered, raised, loweredOf, raisedOf, turningOf, rangedOf}
+use Rattle.clock.specs.Ranges.{f0, PhaseFits, PhaseTurned, Ceiling}
+use Rattle.clock.specs.Floor.{arm-nan, High, high-from, middle-from, minus-zero, ceiling-up, ceiling-not}
 
 -- ---- the loops, by the arm
 abbrev at : Float → ℤ → ℤ → Turning
@@ -49,19 +50,19 @@ raised-once p c h =
     ∙ ap (λ (z : ℤ). until (λ (z : Turning). not (negative (z .arm))) raised (suc c - 1) (at (add binary32 p thirtyTwo) z (negsuc 0))) (more32 c h)
     ∙ until-stop _ _ _ _ refl
 
-ranged-middle : (p : Float) (w : ℕ) → armOf p ≡ pos w → w < 32 → rangedOf p ≡ at p (pos w) (pos 0)
-unfolding rangedOf
+ranged-middle : (p : Float) (w : ℕ) → armNumberOf p ≡ pos w → w < 32 → turningOf p ≡ at p (pos w) (pos 0)
+unfolding turningOf
 ranged-middle p w e h = rw (e, lowered-stays (at p (pos w) (pos 0)) (lt-leb 32 w h)) (raised-stays (at p (pos w) (pos 0)) refl)
 
-ranged-high : (p : Float) (w : ℕ) → armOf p ≡ pos w → 32 ≤ w → w < 64 → rangedOf p ≡ at (sub binary32 p thirtyTwo) (pos (w - 32)) (pos 1)
-unfolding rangedOf
+ranged-high : (p : Float) (w : ℕ) → armNumberOf p ≡ pos w → 32 ≤ w → w < 64 → turningOf p ≡ at (sub binary32 p thirtyTwo) (pos (w - 32)) (pos 1)
+unfolding turningOf
 ranged-high p w e h k = rw (e, lowered-once p w h k) (raised-stays (at (sub binary32 p thirtyTwo) (pos (w - 32)) (pos 1)) refl)
 
-ranged-low : (p : Float) (c : ℕ) → armOf p ≡ negsuc c → c < 32 → rangedOf p ≡ at (add binary32 p thirtyTwo) (pos (31 - c)) (negsuc 0)
-unfolding rangedOf
+ranged-low : (p : Float) (c : ℕ) → armNumberOf p ≡ negsuc c → c < 32 → turningOf p ≡ at (add binary32 p thirtyTwo) (pos (31 - c)) (negsuc 0)
+unfolding turningOf
 ranged-low p c e h = rw (e, lowered-stays (at p (negsuc c) (pos 0)) refl) (raised-once p c h)
 
--- ---- the phase, its arm, and 1 more than the shift, as the code has them
+-- ---- the phase, its arm, and 1 more than the shift, as the code has them, and their ranges
 pub record Same (p : Float) (arm ahead : ℕ) (t : Turning) : Type 0 where
   pub phases : p ≡ t .phase
   pub arms : t .arm ≡ pos arm
@@ -112,11 +113,11 @@ from0 p i h = record { lower = not-lt→le p f0 (in-finite minus16 f48 p tt tt i
 pub middle-in : (p : Float) → PhaseFits p → lt p f0 ≡ false → lt p thirtyTwo ≡ true → In f0 f48 p
 middle-in p r h k = from0 p (in-of p r (lt-not-nan p thirtyTwo k)) h
 
-pub same-middle : (p : Float) (w : ℕ) → PhaseFits p → lt p f0 ≡ false → lt p thirtyTwo ≡ true → w ≡ toUnsigned 64 p → Same p w 1 (rangedOf p)
+pub same-middle : (p : Float) (w : ℕ) → PhaseFits p → lt p f0 ≡ false → lt p thirtyTwo ≡ true → w ≡ toUnsigned 64 p → Same p w 1 (turningOf p)
 same-middle p w r h k e =
     let i = middle-in p r h k in
     let m = middle-from p (not-is (lt p f0) h) (T-is (lt p thirtyTwo) k) w e in
-    same-as p w 1 (pos 0) (rangedOf p) (ranged-middle p w (m .arm) (m .most)) refl (m .most) (omega arith)
+    same-as p w 1 (pos 0) (turningOf p) (ranged-middle p w (m .arm) (m .most)) refl (m .most) (omega arith)
     (inr (record { lower = i .lower; upper = lt→le p thirtyTwo (T-is (lt p thirtyTwo) k) }))
 
 -- ---- 32 and up
@@ -126,7 +127,7 @@ high-in p r h k = from0 p (in-of p r (le-not-nan thirtyTwo p k)) h
 pub high-is : (p : Float) (w : ℕ) → PhaseFits p → le thirtyTwo p ≡ true → w ≡ toUnsigned 64 p → High p w
 high-is p w r k e = high-from p (in-of p r (le-not-nan thirtyTwo p k)) (T-is (le thirtyTwo p) k) w e
 
-pub same-high : (p : Float) (w : ℕ) → PhaseFits p → le thirtyTwo p ≡ true → w ≡ toUnsigned 64 p → Same (sub binary32 p thirtyTwo) (w - 32) 2 (rangedOf p)
+pub same-high : (p : Float) (w : ℕ) → PhaseFits p → le thirtyTwo p ≡ true → w ≡ toUnsigned 64 p → Same (sub binary32 p thirtyTwo) (w - 32) 2 (turningOf p)
 unfolding ofBits sub le
 same-high p w r k e =
     let i = in-of p r (le-not-nan thirtyTwo p k) in
@@ -135,11 +136,11 @@ same-high p w r k e =
     let g = u .most in
     let n : In thirtyTwo f48 p = record { lower = T-is (le thirtyTwo p) k; upper = i .upper } in
     let a : In thirtyTwo thirtyTwo thirtyTwo = record { lower = tt; upper = tt } in
-    same-as (sub binary32 p thirtyTwo) (w - 32) 2 (pos 1) (rangedOf p) (ranged-high p w (u .arm) l (omega arith)) refl (omega arith) (omega arith)
+    same-as (sub binary32 p thirtyTwo) (w - 32) 2 (pos 1) (turningOf p) (ranged-high p w (u .arm) l (omega arith)) refl (omega arith) (omega arith)
     (inr (in-wider (sub binary32 thirtyTwo thirtyTwo) (sub binary32 f48 thirtyTwo) f0 thirtyTwo tt tt tt tt (sub-in binary32 thirtyTwo f48 thirtyTwo thirtyTwo tt tt n a)))
 
 -- ---- below 0
-pub neg-in : (p : Float) → PhaseFits p → lt p f0 ≡ true → In f0 f16 (neg p)
+pub neg-in : (p : Float) → PhaseFits p → lt p f0 ≡ true → In f0 sixteen (neg p)
 unfolding lt neg ofBits
 neg-in p (inl e) h = absurd (lt-not-nan p f0 h e)
 neg-in nan (inr i) h = absurd (in-finite minus16 f48 nan tt tt i)
@@ -150,7 +151,7 @@ neg-in (fin false m e) (inr i) h = absurd (go (m * up e) (ltb→lt (m * up e * 1
     go a k = omega arith
 neg-in (fin true m e) (inr i) h = record {
   lower = →le f0 (fin false m e) tt tt (low (m * up e) (down e));
-  upper = →le (fin false m e) f16 tt tt (top (m * up e) (down e) (le→ minus16 (fin true m e) tt tt (i .lower)));
+  upper = →le (fin false m e) sixteen tt tt (top (m * up e) (down e) (le→ minus16 (fin true m e) tt tt (i .lower)));
 }
   where
     low : (a D : ℕ) → 0 * up (pos 0) * D + 0 * 1 ≤ a * 1 + 0 * D
@@ -160,7 +161,7 @@ neg-in (fin true m e) (inr i) h = record {
     top a D k = omega arith
 
 -- the ceiling of a phase's negative is its arm, and is not 0
-low-arm : (p : Float) (c : ℕ) → lt p f0 ≡ true → PhaseFits p → Ceiling (neg p) c → (armOf p ≡ negℤ (pos c)) × (1 ≤ c)
+low-arm : (p : Float) (c : ℕ) → lt p f0 ≡ true → PhaseFits p → Ceiling (neg p) c → (armNumberOf p ≡ negℤ (pos c)) × (1 ≤ c)
 unfolding lt neg ofBits
 low-arm p c h (inl e) k = absurd (lt-not-nan p f0 h e)
 low-arm nan c h (inr i) k = absurd (in-finite minus16 f48 nan tt tt i)
@@ -182,7 +183,7 @@ neg-suc : (c : ℕ) → 1 ≤ c → negℤ (pos c) ≡ negsuc (c - 1)
 neg-suc zero h = absurd (omega arith)
 neg-suc (suc c) h = let e : suc c - 1 ≡ c = omega arith in rw e
 
-pub same-low : (p : Float) (c : ℕ) → PhaseFits p → lt p f0 ≡ true → Ceiling (neg p) c → Same (add binary32 p thirtyTwo) (32 - c) 0 (rangedOf p)
+pub same-low : (p : Float) (c : ℕ) → PhaseFits p → lt p f0 ≡ true → Ceiling (neg p) c → Same (add binary32 p thirtyTwo) (32 - c) 0 (turningOf p)
 unfolding ofBits add le
 same-low p c r h k =
     let i = in-of p r (lt-not-nan p f0 h) in
@@ -192,24 +193,24 @@ same-low p c r h k =
     let s : 31 - (c - 1) ≡ 32 - c = omega arith in
     let n : In minus16 f0 p = record { lower = i .lower; upper = lt→le p f0 (T-is (lt p f0) h) } in
     let a : In thirtyTwo thirtyTwo thirtyTwo = record { lower = tt; upper = tt } in
-    same-as (add binary32 p thirtyTwo) (32 - c) 0 (negsuc 0) (rangedOf p)
+    same-as (add binary32 p thirtyTwo) (32 - c) 0 (negsuc 0) (turningOf p)
     (ranged-low p (c - 1) (g .0 ∙ neg-suc c l) (omega arith) ∙ ap (λ (z : ℕ). at (add binary32 p thirtyTwo) (pos z) (negsuc 0)) s) refl (omega arith) (omega arith)
     (inr (in-wider (add binary32 minus16 thirtyTwo) (add binary32 f0 thirtyTwo) f0 thirtyTwo tt tt tt tt (add-in binary32 minus16 f0 thirtyTwo thirtyTwo tt tt n a)))
 
 -- ---- NaN
-pub same-nan : (p : Float) → PhaseFits p → lt p thirtyTwo ≡ false → le thirtyTwo p ≡ false → Same p 0 1 (rangedOf p)
+pub same-nan : (p : Float) → PhaseFits p → lt p thirtyTwo ≡ false → le thirtyTwo p ≡ false → Same p 0 1 (turningOf p)
 unfolding ofBits
 same-nan p (inr i) h k = absurd (true≢false (sym (is-true (le thirtyTwo p) (not-lt→le p thirtyTwo (in-finite minus16 f48 p tt tt i) tt (not-is (lt p thirtyTwo) h))) ∙ k))
-same-nan p (inl e) h k = same-as p 0 1 (pos 0) (rangedOf p) (ranged-middle p 0 (ap armOf e ∙ arm-nan) (omega arith)) refl (omega arith) (omega arith) (inl e)
+same-nan p (inl e) h k = same-as p 0 1 (pos 0) (turningOf p) (ranged-middle p 0 (ap armNumberOf e ∙ arm-nan) (omega arith)) refl (omega arith) (omega arith) (inl e)
 
 -- ---- so every admitted phase has its arm and its shift
 pub record Found (q : Float) : Type 0 where
   pub phase : Float
   pub arm : ℕ
   pub ahead : ℕ
-  pub same : Same phase arm ahead (rangedOf q)
+  pub same : Same phase arm ahead (turningOf q)
 
-found-as : (q p : Float) (arm ahead : ℕ) → Same p arm ahead (rangedOf q) → Found q
+found-as : (q p : Float) (arm ahead : ℕ) → Same p arm ahead (turningOf q) → Found q
 found-as q p arm ahead s = record { phase = p; arm = arm; ahead = ahead; same = s }
 
 pub found : (q : Float) → PhaseFits q → Found q
@@ -231,8 +232,19 @@ found q r = low (lt q f0) refl
     low true e = ceiled (lt (ofInt binary32 (pos (toUnsigned 64 (neg q)))) (neg q)) refl e
     low false e = middle (lt q thirtyTwo) refl e
 
+-- what the code holds is made of these parts, and has them: nothing is lost with the signs
+pub held : (q p : Float) (arm ahead : ℕ) → Same p arm ahead (turningOf q) → _≡_ {A = Arm} (record { phase = p; arm = arm; ahead = ahead }) (rangedOf q)
+unfolding rangedOf
+held q p arm ahead s = rw (s .phases, s .arms, s .shifts)
+
+pub same-held : (q : Float) (a : Arm) → PhaseFits q → a ≡ rangedOf q → Same (a .phase) (a .arm) (a .ahead) (turningOf q)
+same-held q a r e =
+    let f = found q r in
+    let k : _≡_ {A = Arm} (record { phase = f .phase; arm = f .arm; ahead = f .ahead }) a = held q (f .phase) (f .arm) (f .ahead) (f .same) ∙ sym e in
+    subst (λ (z : Arm). Same (z .phase) (z .arm) (z .ahead) (turningOf q)) k (f .same)
+
 -- the loops end by their tests, not by the number of turns that they are given
-pub ranged-done : (q : Float) → PhaseFits q → (tooHigh (rangedOf q .arm) ≡ false) × (negative (rangedOf q .arm) ≡ false)
+pub ranged-done : (q : Float) → PhaseFits q → (tooHigh (turningOf q .arm) ≡ false) × (negative (turningOf q .arm) ≡ false)
 ranged-done q r =
     let f = found q r in
     let m = f .same .small in
@@ -252,6 +264,6 @@ truncates (fin false m e) i = go (m * up e) (down e) (down-pos e) (le→ (fin fa
     go : (a D : ℕ) → 0 < D → a * 1 + 0 * D ≤ 3 * up (pos 4) * D + 0 * 1 → T (ltb 0 (1 * D + a * 1)) × T (ltb (a * 1) (2 ^ 64 * D))
     go a D d l = (lt→ltb 0 (1 * D + a * 1) (omega arith), lt→ltb (a * 1) (2 ^ 64 * D) (omega arith))
 
-pub within48 : (x : Float) → In f0 f16 x → In f0 f48 x
+pub within48 : (x : Float) → In f0 sixteen x → In f0 f48 x
 unfolding ofBits le
-within48 x i = in-wider f0 f16 f0 f48 tt tt tt tt i
+within48 x i = in-wider f0 sixteen f0 f48 tt tt tt tt i

@@ -14,8 +14,8 @@ use Rattle.laws.specs.FloatOrder.{le-self, not-lt→le}
 use Rattle.laws.specs.FloatSums.{In, ends, in-finite, add-in, in-wider}
 use Rattle.laws.specs.FloatProducts.{mul-in}
 use Rattle.numbers.specs.Numbers.{clampOf}
-use Rattle.clock.specs.Clock.{thirtyTwo, alpha, beta, tenth, minusTenth, Moving, moveTurn, movedOf}
-use Rattle.clock.specs.Ranges.{f0, f48, minus16, PhaseFits, PhaseTurned, RateFits, ErrorFits}
+use Rattle.clock.specs.Clock.{thirtyTwo, minus16, f48, alpha, beta, tenth, minusTenth, Moving, moveTurn, movedOf}
+use Rattle.clock.specs.Ranges.{f0, PhaseFits, PhaseTurned, RateFits, ErrorFits}
 
 -- ---- the constants: BW = 0.01, DENOMINATOR = 1 + 128 BW + BW BW, ALPHA = 256 BW / DENOMINATOR, BETA = 4 BW BW / DENOMINATOR, in f32
 unfoldable pub bandwidth : Float

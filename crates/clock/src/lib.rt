@@ -2,15 +2,18 @@
 // for each symbol, and a loop that turns the arms by a timing error. Ring and windows are planes of
 // real and imaginary parts that the caller lends.
 ghost use mathlib.Core.Path.{_≡_};
-ghost use lib.ListN.{length};
-ghost use Rattle.filter.specs.Filter.{Windows};
-ghost use Rattle.clock.specs.Clock.{freshPlace, countFits, admittedPlace, Run, steppedOf, updatedOf};
+ghost use Rattle.filter.specs.Lends.{Windowed, given};
+ghost use Rattle.clock.specs.Clock.{freshPlace, countsFit, admittedOf, steppedOf, updatedOf};
 ghost use Rattle.clock.specs.Ranges.{Admitted, After};
+ghost use Rattle.clock.specs.Lends.{leaves};
 
 mod phase;
 mod tick;
 
 use complex::Complex32;
+use filter::RING;
+use filter::TAPS;
+use filter::WINDOWS;
 use filter::matched;
 use numbers::compare::clamp32;
 use tick::ticked;
@@ -28,16 +31,18 @@ pub struct ClockPlace {
 }
 
 // No symbol, or a symbol: the arm it is matched with, and the ring's place where its windows begin.
-pub enum Answer {
+pub enum Due {
     NoSymbol,
     Symbol(usize, usize),
 }
 
+// The place after a sample, and what is due.
 pub struct Stepped {
     pub place: ClockPlace,
-    pub answer: Answer,
+    pub due: Due,
 }
 
+// A cold clock: nothing in the ring, the phase in the middle of the arms.
 pub fn fresh() -> ClockPlace
     ensures { λ r. ⌜ r ≡ freshPlace ⌝ }
 {
@@ -51,9 +56,10 @@ pub fn fresh() -> ClockPlace
     }
 }
 
-// The counts of a cold or a warm clock.
+// Whether the counts are those of a cold clock (position 0, at most 82 samples) or of a warm one
+// (position 5 to 12, at most 100 samples more than that).
 fn counts_fit(c: ClockPlace) -> bool
-    ensures { λ r. ⌜ r ≡ countFits c ⌝ }
+    ensures { λ r. ⌜ r ≡ countsFit c ⌝ }
 {
     if c.warm {
         if c.position <= 12 {
@@ -64,12 +70,14 @@ fn counts_fit(c: ClockPlace) -> bool
     (c.position == 0) & (c.count <= 82)
 }
 
-// Whether document 01 admits the place: may it be stepped? NaN passes as a phase and as a rate.
-pub fn admitted(c: ClockPlace) -> bool
-    ensures { λ r. ⌜ r ≡ admittedPlace c ⌝ }
+// Whether the place may be stepped, be it fresh or handed in: the ring's place below 256, the counts
+// of a cold or a warm clock, the phase in -16..=48 and the rate in -0.1..=0.1. NaN passes as a phase
+// and as a rate.
+pub fn is_admitted(c: ClockPlace) -> bool
+    ensures { λ r. ⌜ r ≡ admittedOf c ⌝ }
 {
     let floats = (!(c.phase < -16.0) & !(48.0 < c.phase)) & (!(c.rate < -0.1) & !(0.1 < c.rate));
-    (c.start < 256) & (counts_fit(c) & floats)
+    (c.start < RING) & (counts_fit(c) & floats)
 }
 
 // Takes a sample. Where that brings a symbol, its 21 matched values and derivatives are written;
@@ -77,31 +85,24 @@ pub fn admitted(c: ClockPlace) -> bool
 pub fn step<'a>(
     c: ClockPlace,
     sample: Complex32,
-    taps: &'a [f32; 1025],
-    derivatives: &'a [f32; 1025],
-    ring_real: &mut [f32; 256],
-    ring_imaginary: &mut [f32; 256],
-    value_real: &mut [f32; 21],
-    value_imaginary: &mut [f32; 21],
-    derivative_real: &mut [f32; 21],
-    derivative_imaginary: &mut [f32; 21],
+    taps: &'a [f32; TAPS],
+    derivatives: &'a [f32; TAPS],
+    ring_real: &mut [f32; RING],
+    ring_imaginary: &mut [f32; RING],
+    value_real: &mut [f32; WINDOWS],
+    value_imaginary: &mut [f32; WINDOWS],
+    derivative_real: &mut [f32; WINDOWS],
+    derivative_imaginary: &mut [f32; WINDOWS],
 ) -> Stepped
     requires { ⌜ Admitted c ⌝ }
-    requires { ⌜ length (now «value_real») ≡ 21 ⌝ ∗ ⌜ length (now «value_imaginary») ≡ 21 ⌝ ∗ ⌜ length (now «derivative_real») ≡ 21 ⌝ ∗ ⌜ length (now «derivative_imaginary») ≡ 21 ⌝ }
-    ensures same { λ r. ⌜ _≡_ {A = Run}
-        (record {
-          stepped = r;
-          real = now («ring_real» .exit);
-          imaginary = now («ring_imaginary» .exit);
-          windows = record { real = now («value_real» .exit); imaginary = now («value_imaginary» .exit); derivativeReal = now («derivative_real» .exit); derivativeImaginary = now («derivative_imaginary» .exit) };
-        })
-        (steppedOf (now (taps .entry)) (now (derivatives .entry)) c sample (now («ring_real» .entry)) (now («ring_imaginary» .entry))
-        (record { real = now («value_real» .entry); imaginary = now («value_imaginary» .entry); derivativeReal = now («derivative_real» .entry); derivativeImaginary = now («derivative_imaginary» .entry) })) ⌝ }
-    ensures kept { λ r. ⌜ After (r .answer) (r .place) ⌝ }
+    requires { ⌜ given «value_real» «value_imaginary» «derivative_real» «derivative_imaginary» Windowed ⌝ }
+    ensures same { λ r. ⌜ leaves «ring_real» «ring_imaginary» «value_real» «value_imaginary» «derivative_real» «derivative_imaginary» r
+        (λ real imaginary windows after. after ≡ steppedOf (now (taps .entry)) (now (derivatives .entry)) c sample real imaginary windows) ⌝ }
+    ensures kept { λ r. ⌜ After (r .due) (r .place) ⌝ }
 {
     let s = ticked(c, sample, ring_real, ring_imaginary);
-    let answer = s.answer;
-    let Answer::Symbol(arm, from) = answer else {
+    let due = s.due;
+    let Due::Symbol(arm, from) = due else {
         return s;
     };
     matched(
@@ -119,6 +120,7 @@ pub fn step<'a>(
     s
 }
 
+// The loop's bandwidth, and from it what a timing error moves phase and rate by.
 const BANDWIDTH: f32 = 0.01;
 
 const DENOMINATOR: f32 = 1.0 + 128.0 * BANDWIDTH + BANDWIDTH * BANDWIDTH;

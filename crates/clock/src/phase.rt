@@ -2,12 +2,11 @@
 // phase, and the whole part comes from one truncating conversion.
 ghost use mathlib.Core.Path.{_≡_};
 ghost use mathlib.Core.Bool.{true};
+ghost use Prim.Native.Nat.{_≤_};
 ghost use lib.Ieee as Ieee;
 ghost use Rattle.laws.specs.FloatSums.{In};
-ghost use Rattle.clock.specs.Clock.{rangedOf};
-ghost use Rattle.clock.specs.Ranges.{PhaseFits, f0, f16};
-ghost use Rattle.clock.specs.Floor.{Ceiling};
-ghost use Rattle.clock.specs.Ranged.{Same};
+ghost use Rattle.clock.specs.Clock.{sixteen, rangedOf};
+ghost use Rattle.clock.specs.Ranges.{PhaseFits, f0, Ceiling};
 
 // A phase in 0..=32 or NaN, its arm, and whether the window stands a sample back (0), where it stood
 // (1), or a sample on (2).
@@ -19,7 +18,7 @@ pub struct Arm {
 
 // The smallest whole number that is not below x, for x in 0..=16.
 fn ceiling(x: f32) -> usize
-    requires { ⌜ In f0 f16 x ⌝ }
+    requires { ⌜ In f0 sixteen x ⌝ }
     ensures { λ r. ⌜ Ceiling x r ⌝ }
 {
     let whole = std::num::truncating_f32_to_u64(x);
@@ -30,10 +29,11 @@ fn ceiling(x: f32) -> usize
     whole as usize
 }
 
-// A phase below 0.
-fn raised(phase: f32) -> Arm
+// Brings a phase in -16..0 into range: it is raised by a turn of 32 arms.
+fn ranged_below(phase: f32) -> Arm
     requires { ⌜ PhaseFits phase ⌝ ∗ ⌜ Ieee.lt phase f0 ≡ true ⌝ }
-    ensures { λ r. ⌜ Same (r .phase) (r .arm) (r .ahead) (rangedOf phase) ⌝ }
+    ensures same { λ r. ⌜ r ≡ rangedOf phase ⌝ }
+    ensures few { λ r. ⌜ r .ahead ≤ 2 ⌝ }
 {
     let above = ceiling(-phase);
     Arm {
@@ -43,13 +43,14 @@ fn raised(phase: f32) -> Arm
     }
 }
 
-// A phase in -16..=48, or NaN.
-pub fn turned(phase: f32) -> Arm
+// Brings a phase in -16..=48 into 0..=32; a NaN stays, with arm 0.
+pub fn ranged(phase: f32) -> Arm
     requires { ⌜ PhaseFits phase ⌝ }
-    ensures { λ r. ⌜ Same (r .phase) (r .arm) (r .ahead) (rangedOf phase) ⌝ }
+    ensures same { λ r. ⌜ r ≡ rangedOf phase ⌝ }
+    ensures few { λ r. ⌜ r .ahead ≤ 2 ⌝ }
 {
     if phase < 0.0 {
-        return raised(phase);
+        return ranged_below(phase);
     }
     if phase < 32.0 {
         let whole = std::num::truncating_f32_to_u64(phase);

@@ -24,10 +24,16 @@ abbrev pub tapAt : Row → ℕ → Complex32
 tapAt row k = record { real = getD (row .real) k nan; imaginary = getD (row .imaginary) k nan }
 
 abbrev pub zero32 : Float
-zero32 = ofBits binary32 0
+zero32 = ofBits binary32 0x00000000  -- 0
+
+abbrev pub half32 : Float
+half32 = ofBits binary32 0x3f000000  -- 0.5
 
 abbrev pub one32 : Float
-one32 = ofBits binary32 1065353216
+one32 = ofBits binary32 0x3f800000  -- 1
+
+abbrev pub two32 : Float
+two32 = ofBits binary32 0x40000000  -- 2
 
 -- the fresh weights: the centre 1, all others zero
 abbrev pub freshReal : List Float
@@ -50,15 +56,19 @@ noSums = record { value = zeroPair; derivative = zeroPair; energy = zero32 }
 abbrev pub sumsTurn : Row → Row → Row → ℕ → Sums → Sums
 sumsTurn w x dx k s = tappedOf s (tapAt w k) (tapAt x k) (tapAt dx k)
 
-unfoldable pub sumsOf : Row → Row → Row → Sums
-sumsOf w x dx = turns (sumsTurn w x dx) 21 noSums
+unfoldable pub tapSumsOf : Row → Row → Row → Sums
+tapSumsOf w x dx = turns (sumsTurn w x dx) 21 noSums
 
 -- ---- the weights
+
+-- how fast the weights adapt to a constant modulus: not at all, but the product with it is made
+abbrev pub adaptation : Float
+adaptation = ofBits binary32 0x00000000  -- 0
 
 -- adaptation times 1 less the power, kept in -2..1, over the energy
 abbrev pub stepOf : Float → Float → Float
 stepOf power energy =
-    div binary32 (mul binary32 zero32 (clampOf (sub binary32 one32 power) (neg (ofBits binary32 1073741824)) one32)) energy
+    div binary32 (mul binary32 adaptation (clampOf (sub binary32 one32 power) (neg two32) one32)) energy
 
 -- a weight moved by step times the value times the conjugate of the window's value there
 abbrev pub movedOf : Complex32 → Float → Complex32 → Complex32 → Complex32
@@ -88,20 +98,28 @@ scaleTurn gain k w = setTap w k (record { real = mul binary32 (tapAt w k .real) 
 unfoldable pub scaledBy : Float → Row → Row
 scaledBy gain w = turns (scaleTurn gain) 21 w
 
+-- the largest norm that is left alone, and its root
+abbrev pub mostNorm : Float
+mostNorm = ofBits binary32 0x41800000  -- 16
+
+abbrev pub mostRoot : Float
+mostRoot = ofBits binary32 0x40800000  -- 4
+
 -- a norm above 16: every weight times 4 over its root
 unfoldable pub limitedOf : Row → Row
-limitedOf w =
-    cond (lt (ofBits binary32 1098907648) (normOf w))
-    (scaledBy (div binary32 (ofBits binary32 1082130432) (sqrtOf binary32 (normOf w))) w)
-    w
+limitedOf w = cond (lt mostNorm (normOf w)) (scaledBy (div binary32 mostRoot (sqrtOf binary32 (normOf w))) w) w
 
--- reliable, an energy above 0.01, and both numbers finite
-abbrev pub learnsFrom : Bool → Float → Float → Bool
-learnsFrom reliable energy power = reliable && lt (ofBits binary32 1008981770) energy && isFinite energy && isFinite power
+-- the window's energy that is too little to learn from
+abbrev pub leastEnergy : Float
+leastEnergy = ofBits binary32 0x3c23d70a  -- 0.01
+
+-- reliable, an energy above the least, and both numbers finite
+abbrev pub learnsOf : Bool → Float → Float → Bool
+learnsOf reliable energy power = reliable && lt leastEnergy energy && isFinite energy && isFinite power
 
 unfoldable pub updatedOf : Sums → Bool → Row → Row → Row
 updatedOf s reliable x w =
-    cond (learnsFrom reliable (s .energy) (powerOf (s .value)))
+    cond (learnsOf reliable (s .energy) (powerOf (s .value)))
     (limitedOf (adaptedOf (s .value) (stepOf (powerOf (s .value)) (s .energy)) x w))
     w
 
@@ -109,11 +127,11 @@ updatedOf s reliable x w =
 
 -- half the value times its derivative
 abbrev pub slopeOf : Sums → Float
-slopeOf s = mul binary32 (ofBits binary32 1056964608) (conjugateProductOf (s .value) (s .derivative) .real)
+slopeOf s = mul binary32 half32 (conjugateProductOf (s .value) (s .derivative) .real)
 
 -- kept in -1..1, and a NaN kept; zero when unreliable
-unfoldable pub timingOf : Sums → Bool → Float
-timingOf s reliable = cond reliable (clampOf (slopeOf s) (neg one32) one32) zero32
+unfoldable pub timingErrorOf : Sums → Bool → Float
+timingErrorOf s reliable = cond reliable (clampOf (slopeOf s) (neg one32) one32) zero32
 
 -- one symbol, and the weights after it
 pub record Step : Type 0 where
@@ -121,7 +139,7 @@ pub record Step : Type 0 where
   pub weights : Row
 
 abbrev pub stepFrom : Sums → Bool → Row → Row → Step
-stepFrom s reliable x w = record { equalized = record { value = s .value; timing = timingOf s reliable }; weights = updatedOf s reliable x w }
+stepFrom s reliable x w = record { equalized = record { value = s .value; timing = timingErrorOf s reliable }; weights = updatedOf s reliable x w }
 
 unfoldable pub equalizedOf : Row → Row → Row → Bool → Step
-equalizedOf w x dx reliable = stepFrom (sumsOf w x dx) reliable x w
+equalizedOf w x dx reliable = stepFrom (tapSumsOf w x dx) reliable x w

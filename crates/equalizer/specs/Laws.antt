@@ -7,22 +7,22 @@ use Rattle.numbers.specs.Numbers.{clampOf}
 use Rattle.numbers.specs.Root.{sqrtOf}
 use Rattle.complex.specs.Complex.{powerOf}
 use Rattle.equalizer.specs.declared.Sums.{Sums}
-use Rattle.equalizer.specs.Equalizer.{Row, Step, zero32, one32, sumsOf, stepOf, adaptedOf, normOf, scaledBy, limitedOf, learnsFrom, updatedOf, slopeOf, timingOf, equalizedOf}
+use Rattle.equalizer.specs.Equalizer.{Row, Step, zero32, one32, tapSumsOf, stepOf, adaptedOf, mostNorm, mostRoot, normOf, scaledBy, limitedOf, learnsOf, updatedOf, slopeOf, timingErrorOf, equalizedOf}
 
 -- ---- the norm's two ways
 module _ (w : Row) (size : Float) (is-norm : size ≡ normOf w) where
-  pub limited-found : (root : Float) (after : Row) → lt (ofBits binary32 1098907648) size ≡ true → root ≡ sqrtOf binary32 size
-      → after ≡ scaledBy (div binary32 (ofBits binary32 1082130432) root) w → after ≡ limitedOf w
+  pub limited-found : (root : Float) (after : Row) → lt mostNorm size ≡ true → root ≡ sqrtOf binary32 size
+      → after ≡ scaledBy (div binary32 mostRoot root) w → after ≡ limitedOf w
   unfolding limitedOf
   limited-found root after above is-root e = rw (← is-norm) (cond-then _ _ _ _ above (rw (← is-root) e))
 
-  pub limited-kept : lt (ofBits binary32 1098907648) size ≡ false → w ≡ limitedOf w
+  pub limited-kept : lt mostNorm size ≡ false → w ≡ limitedOf w
   unfolding limitedOf
   limited-kept under = rw (← is-norm) (cond-no _ _ _ _ under refl)
 
 -- ---- the update's two ways
 module _ (s : Sums) (reliable : Bool) (x w : Row) (power : Float) (learning : Bool)
-    (is-power : power ≡ powerOf (s .value)) (is-learning : learning ≡ learnsFrom reliable (s .energy) power) where
+    (is-power : power ≡ powerOf (s .value)) (is-learning : learning ≡ learnsOf reliable (s .energy) power) where
   pub updated-found : (step : Float) (moved after : Row) → learning ≡ true → step ≡ stepOf power (s .energy)
       → moved ≡ adaptedOf (s .value) step x w → after ≡ limitedOf moved → after ≡ updatedOf s reliable x w
   unfolding updatedOf
@@ -34,8 +34,8 @@ module _ (s : Sums) (reliable : Bool) (x w : Row) (power : Float) (learning : Bo
   updated-kept left = rw (← is-power, ← is-learning) (cond-no _ _ _ _ left refl)
 
 -- ---- the whole step
-pub step-made : (w x dx : Row) (reliable : Bool) (s : Sums) (after : Row) (timing : Float) → s ≡ sumsOf w x dx
-    → after ≡ updatedOf s reliable x w → timing ≡ timingOf s reliable
+pub step-made : (w x dx : Row) (reliable : Bool) (s : Sums) (after : Row) (timing : Float) → s ≡ tapSumsOf w x dx
+    → after ≡ updatedOf s reliable x w → timing ≡ timingErrorOf s reliable
     → _≡_ {A = Step} (record { equalized = record { value = s .value; timing = timing }; weights = after }) (equalizedOf w x dx reliable)
 unfolding equalizedOf
 step-made w x dx reliable s after timing is-sums is-after is-timing = rw (is-after, is-timing, is-sums)
@@ -46,7 +46,7 @@ unfolding equalizedOf updatedOf
 unreliable-kept w x dx = refl
 
 pub unreliable-silent : (w x dx : Row) → equalizedOf w x dx false .equalized .timing ≡ zero32
-unfolding equalizedOf timingOf
+unfolding equalizedOf timingErrorOf
 unreliable-silent w x dx = refl
 
 -- ---- the timing error is a NaN or lies in -1..1
@@ -69,12 +69,12 @@ module _ (x lo hi : Float) (ordered : lt hi lo ≡ false) where
   unfolding clampOf
   clamped-high same = high-cases (lt x lo) (lt hi x) same refl
 
-pub timing-not-below : (s : Sums) (reliable : Bool) → lt (timingOf s reliable) (neg one32) ≡ false
-unfolding timingOf lt ofBits neg
+pub timing-not-below : (s : Sums) (reliable : Bool) → lt (timingErrorOf s reliable) (neg one32) ≡ false
+unfolding timingErrorOf lt ofBits neg
 timing-not-below s true = clamped-low (slopeOf s) (neg one32) one32 refl refl
 timing-not-below s false = refl
 
-pub timing-not-above : (s : Sums) (reliable : Bool) → lt one32 (timingOf s reliable) ≡ false
-unfolding timingOf lt ofBits neg
+pub timing-not-above : (s : Sums) (reliable : Bool) → lt one32 (timingErrorOf s reliable) ≡ false
+unfolding timingErrorOf lt ofBits neg
 timing-not-above s true = clamped-high (slopeOf s) (neg one32) one32 refl refl
 timing-not-above s false = refl

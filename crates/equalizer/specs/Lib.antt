@@ -1,2 +1,3 @@
 pub mod Equalizer
+pub mod Lends
 pub mod Laws

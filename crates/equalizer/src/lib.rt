@@ -2,11 +2,18 @@
 // two planes: wr and wi are the real and imaginary parts of the weights, xr and xi those of the
 // window, dr and di those of its derivatives.
 ghost use mathlib.Core.Path.{_≡_};
-ghost use Rattle.equalizer.specs.Equalizer.{Step, rowOf, freshReal, freshImaginary, tappedOf, sumsOf, adaptedOf, normOf, scaledBy, limitedOf, stepOf, learnsFrom, updatedOf, timingOf, equalizedOf};
+ghost use Rattle.equalizer.specs.Lends.{reads, leaves};
+ghost use Rattle.equalizer.specs.Equalizer.{Step, freshReal, freshImaginary, tappedOf, tapSumsOf, adaptedOf, normOf, scaledBy, limitedOf, stepOf, learnsOf, updatedOf, timingErrorOf, equalizedOf};
 use complex::Complex32;
 use numbers::compare::clamp32;
 use numbers::compare::is_finite32;
 use roots::sqrt32;
+
+// The weights, one for each window of the matched filter, half a symbol apart.
+pub const WEIGHTS: usize = 21;
+
+// The weight in the middle, which a fresh equalizer has at 1.
+const CENTRE: usize = 10;
 
 // Zero: adapting to a constant modulus made fading channels worse, and the detector that follows
 // models the delayed paths.
@@ -27,18 +34,18 @@ pub struct Equalized {
 }
 
 // The weights of a fresh equalizer.
-pub fn fresh_real() -> [f32; 21]
+pub fn fresh_real() -> [f32; WEIGHTS]
     ensures { λ r. ⌜ r ≡ freshReal ⌝ }
 {
-    let mut weights = [0.0; 21];
-    weights[10] = 1.0;
+    let mut weights = [0.0; WEIGHTS];
+    weights[CENTRE] = 1.0;
     weights
 }
 
-pub fn fresh_imaginary() -> [f32; 21]
+pub fn fresh_imaginary() -> [f32; WEIGHTS]
     ensures { λ r. ⌜ r ≡ freshImaginary ⌝ }
 {
-    [0.0; 21]
+    [0.0; WEIGHTS]
 }
 
 // One tap: its weight w, the window's value x there, and that value's derivative dx.
@@ -54,15 +61,16 @@ fn tapped(s: Sums, w: Complex32, x: Complex32, dx: Complex32) -> Sums
     }
 }
 
+// The sums over all taps, from the first to the last.
 fn tap_sums(
-    wr: &[f32; 21],
-    wi: &[f32; 21],
-    xr: &[f32; 21],
-    xi: &[f32; 21],
-    dr: &[f32; 21],
-    di: &[f32; 21],
+    wr: &[f32; WEIGHTS],
+    wi: &[f32; WEIGHTS],
+    xr: &[f32; WEIGHTS],
+    xi: &[f32; WEIGHTS],
+    dr: &[f32; WEIGHTS],
+    di: &[f32; WEIGHTS],
 ) -> Sums
-    ensures { λ r. ⌜ r ≡ sumsOf (rowOf (now (wr .entry)) (now (wi .entry))) (rowOf (now (xr .entry)) (now (xi .entry))) (rowOf (now (dr .entry)) (now (di .entry))) ⌝ }
+    ensures { λ r. ⌜ reads wr wi (λ w. reads xr xi (λ x. reads dr di (λ dx. r ≡ tapSumsOf w x dx))) ⌝ }
 {
     let mut s = Sums {
         value: complex::zero(),
@@ -70,7 +78,7 @@ fn tap_sums(
         energy: 0.0,
     };
     let mut k = 0;
-    while k < 21 {
+    while k < WEIGHTS {
         let w = Complex32 {
             real: wr[k],
             imaginary: wi[k],
@@ -92,17 +100,17 @@ fn tap_sums(
 // Each weight moves by step times the value times the conjugate of the window's value there. A step
 // of zero is a step still: zero times a NaN or an infinity is a NaN.
 fn adapt(
-    wr: &mut [f32; 21],
-    wi: &mut [f32; 21],
-    xr: &[f32; 21],
-    xi: &[f32; 21],
+    wr: &mut [f32; WEIGHTS],
+    wi: &mut [f32; WEIGHTS],
+    xr: &[f32; WEIGHTS],
+    xi: &[f32; WEIGHTS],
     value: Complex32,
     step: f32,
 )
-    ensures { λ r. ⌜ rowOf (now (wr .exit)) (now (wi .exit)) ≡ adaptedOf value step (rowOf (now (xr .entry)) (now (xi .entry))) (rowOf (now (wr .entry)) (now (wi .entry))) ⌝ }
+    ensures { λ r. ⌜ leaves wr wi (λ w after. reads xr xi (λ x. after ≡ adaptedOf value step x w)) ⌝ }
 {
     let mut k = 0;
-    while k < 21 {
+    while k < WEIGHTS {
         let x = xr[k];
         let y = xi[k];
         wr[k] = wr[k] + step * (value.real * x + value.imaginary * y);
@@ -112,12 +120,12 @@ fn adapt(
 }
 
 // The sum of the weights' powers, in their order.
-fn norm(wr: &[f32; 21], wi: &[f32; 21]) -> f32
-    ensures { λ r. ⌜ r ≡ normOf (rowOf (now (wr .entry)) (now (wi .entry))) ⌝ }
+fn norm(wr: &[f32; WEIGHTS], wi: &[f32; WEIGHTS]) -> f32
+    ensures { λ r. ⌜ reads wr wi (λ w. r ≡ normOf w) ⌝ }
 {
     let mut sum = 0.0f32;
     let mut k = 0;
-    while k < 21 {
+    while k < WEIGHTS {
         let w = wr[k];
         let v = wi[k];
         sum = sum + (w * w + v * v);
@@ -126,11 +134,12 @@ fn norm(wr: &[f32; 21], wi: &[f32; 21]) -> f32
     sum
 }
 
-fn scale(wr: &mut [f32; 21], wi: &mut [f32; 21], gain: f32)
-    ensures { λ r. ⌜ rowOf (now (wr .exit)) (now (wi .exit)) ≡ scaledBy gain (rowOf (now (wr .entry)) (now (wi .entry))) ⌝ }
+// Every weight times the gain.
+fn scale(wr: &mut [f32; WEIGHTS], wi: &mut [f32; WEIGHTS], gain: f32)
+    ensures { λ r. ⌜ leaves wr wi (λ w after. after ≡ scaledBy gain w) ⌝ }
 {
     let mut k = 0;
-    while k < 21 {
+    while k < WEIGHTS {
         wr[k] = wr[k] * gain;
         wi[k] = wi[k] * gain;
         k += 1;
@@ -138,8 +147,8 @@ fn scale(wr: &mut [f32; 21], wi: &mut [f32; 21], gain: f32)
 }
 
 // Weights whose norm is above 16 are brought back to it.
-fn limit(wr: &mut [f32; 21], wi: &mut [f32; 21])
-    ensures { λ r. ⌜ rowOf (now (wr .exit)) (now (wi .exit)) ≡ limitedOf (rowOf (now (wr .entry)) (now (wi .entry))) ⌝ }
+fn limit(wr: &mut [f32; WEIGHTS], wi: &mut [f32; WEIGHTS])
+    ensures { λ r. ⌜ leaves wr wi (λ w after. after ≡ limitedOf w) ⌝ }
 {
     let size = norm(wr, wi);
     if size > 16.0 {
@@ -147,27 +156,32 @@ fn limit(wr: &mut [f32; 21], wi: &mut [f32; 21])
     }
 }
 
+// How far the weights move: adaptation times 1 less the symbol's power, kept in -2..=1, over the
+// window's energy.
 fn step_of(power: f32, energy: f32) -> f32
     ensures { λ r. ⌜ r ≡ stepOf power energy ⌝ }
 {
     ADAPTATION * clamp32(1.0 - power, -2.0, 1.0) / energy
 }
 
+// Whether the weights move at all: the symbol is reliable, the energy is above 0.01, and energy and
+// power are finite.
 fn learns(reliable: bool, energy: f32, power: f32) -> bool
-    ensures { λ r. ⌜ r ≡ learnsFrom reliable energy power ⌝ }
+    ensures { λ r. ⌜ r ≡ learnsOf reliable energy power ⌝ }
 {
     reliable & (energy > 0.01) & is_finite32(energy) & is_finite32(power)
 }
 
+// The weights after a symbol: adapted and limited, or left as they are.
 fn update(
-    wr: &mut [f32; 21],
-    wi: &mut [f32; 21],
-    xr: &[f32; 21],
-    xi: &[f32; 21],
+    wr: &mut [f32; WEIGHTS],
+    wi: &mut [f32; WEIGHTS],
+    xr: &[f32; WEIGHTS],
+    xi: &[f32; WEIGHTS],
     s: Sums,
     reliable: bool,
 )
-    ensures { λ r. ⌜ rowOf (now (wr .exit)) (now (wi .exit)) ≡ updatedOf s reliable (rowOf (now (xr .entry)) (now (xi .entry))) (rowOf (now (wr .entry)) (now (wi .entry))) ⌝ }
+    ensures { λ r. ⌜ leaves wr wi (λ w after. reads xr xi (λ x. after ≡ updatedOf s reliable x w)) ⌝ }
 {
     let value = s.value;
     let energy = s.energy;
@@ -181,7 +195,7 @@ fn update(
 // Half the product of the value and its derivative, kept in -1..=1; a NaN stays. Nothing while the
 // signal is not reliable.
 fn timing_error(s: Sums, reliable: bool) -> f32
-    ensures { λ r. ⌜ r ≡ timingOf s reliable ⌝ }
+    ensures { λ r. ⌜ r ≡ timingErrorOf s reliable ⌝ }
 {
     let value = s.value;
     let derivative = s.derivative;
@@ -195,15 +209,16 @@ fn timing_error(s: Sums, reliable: bool) -> f32
 
 // One symbol from the windows, with the weights moved on.
 pub fn equalize(
-    wr: &mut [f32; 21],
-    wi: &mut [f32; 21],
-    xr: &[f32; 21],
-    xi: &[f32; 21],
-    dr: &[f32; 21],
-    di: &[f32; 21],
+    wr: &mut [f32; WEIGHTS],
+    wi: &mut [f32; WEIGHTS],
+    xr: &[f32; WEIGHTS],
+    xi: &[f32; WEIGHTS],
+    dr: &[f32; WEIGHTS],
+    di: &[f32; WEIGHTS],
     reliable: bool,
 ) -> Equalized
-    ensures { λ r. ⌜ _≡_ {A = Step} (record { equalized = r; weights = rowOf (now (wr .exit)) (now (wi .exit)) }) (equalizedOf (rowOf (now (wr .entry)) (now (wi .entry))) (rowOf (now (xr .entry)) (now (xi .entry))) (rowOf (now (dr .entry)) (now (di .entry))) reliable) ⌝ }
+    ensures { λ r. ⌜ leaves wr wi (λ w after. reads xr xi (λ x. reads dr di (λ dx.
+        _≡_ {A = Step} (record { equalized = r; weights = after }) (equalizedOf w x dx reliable)))) ⌝ }
 {
     let s = tap_sums(wr, wi, xr, xi, dr, di);
     update(wr, wi, xr, xi, s, reliable);

@@ -17,8 +17,8 @@ use Rattle.filter.specs.declared.sums.Four.{Four}
 abbrev pub secondAt : List Float → ℕ → ℕ → Float
 secondAt ring from j = getD ring ((from + 2 * j) % 256) nan
 
-unfoldable pub secondsOf : List Float → ℕ → List Float
-secondsOf ring from = upto (secondAt ring from) 37
+unfoldable pub everySecondOf : List Float → ℕ → List Float
+everySecondOf ring from = upto (secondAt ring from) 37
 
 unfoldable pub woven : List Float → List Float → ℕ → Float
 woven evens odds i = cond (eqb (i % 2) 0) (getD evens (i / 2) nan) (getD odds (i / 2) nan)

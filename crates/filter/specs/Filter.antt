@@ -12,8 +12,9 @@ use Rattle.laws.specs.Places.{upto}
 unfoldable pub armTap : List Float → ℕ → ℕ → Float
 armTap table arm i = cond (ltb (arm + 32 * (32 - i)) 1025) (getD table (arm + 32 * (32 - i)) nan) (ofBits binary32 0)
 
-unfoldable pub armOf : List Float → ℕ → List Float
-armOf table arm = upto (armTap table arm) 33
+-- the taps of an arm, the table's last first
+unfoldable pub armTapsOf : List Float → ℕ → List Float
+armTapsOf table arm = upto (armTap table arm) 33
 
 -- what stands i places on from `from` in a ring of 256
 abbrev pub ringAt : List Float → ℕ → ℕ → Float
@@ -36,6 +37,7 @@ pub record Windows : Type 0 where
   pub derivativeReal : List Float
   pub derivativeImaginary : List Float
 
+-- the windows of given samples with given taps
 unfoldable pub windowsWith : (ℕ → Float) → (ℕ → Float) → List Float → List Float → Windows
 windowsWith real imaginary taps derivatives = record {
   real = upto (windowOf real taps) 21;
@@ -44,5 +46,6 @@ windowsWith real imaginary taps derivatives = record {
   derivativeImaginary = upto (windowOf imaginary derivatives) 21;
 }
 
+-- the windows of the ring from a place on, with the taps of an arm
 unfoldable pub matchedOf : List Float → List Float → List Float → List Float → ℕ → ℕ → Windows
-matchedOf taps derivatives real imaginary arm from = windowsWith (ringAt real from) (ringAt imaginary from) (armOf taps arm) (armOf derivatives arm)
+matchedOf taps derivatives real imaginary arm from = windowsWith (ringAt real from) (ringAt imaginary from) (armTapsOf taps arm) (armTapsOf derivatives arm)

@@ -16,8 +16,8 @@ use Rattle.laws.specs.Places.{upto, upto-at, upto-is, upto-same, fill, fill-ste
 use Rattle.laws.specs.Ring.{lt-or-ge}
 use Rattle.filter.specs.declared.sums.Sums.{Sums}
 use Rattle.filter.specs.declared.sums.Four.{Four}
-use Rattle.filter.specs.Filter.{armTap, ringAt, partOf, windowOf, Windows, windowsWith, matchedOf, armOf}
-use Rattle.filter.specs.Fast.{secondAt, secondsOf, woven, tappedOf, tappedFour, noFour, sumsOf, fourOf, putOf, groupOf, madeOf, Filled}
+use Rattle.filter.specs.Filter.{armTap, ringAt, partOf, windowOf, Windows, windowsWith, matchedOf, armTapsOf}
+use Rattle.filter.specs.Fast.{secondAt, everySecondOf, woven, tappedOf, tappedFour, noFour, sumsOf, fourOf, putOf, groupOf, madeOf, Filled}
 
 -- ---- four windows side by side: one tap more
 pub four-start : (X Y : ℕ → Float) (T U : List Float) (k : ℕ) → noFour ≡ fourOf X Y T U k 0
@@ -221,8 +221,8 @@ unfolding partOf turns
 part-same X Z T k zero h = refl
 part-same X Z T k (suc n) h = rw (h (2 * k + n) (omega arith), part-same X Z T k n (λ i p. h i (omega arith)))
 
-woven-ring : (ring : List Float) (from i : ℕ) → i < 74 → woven (secondsOf ring from) (secondsOf ring (from + 1)) i ≡ ringAt ring from i
-unfolding secondsOf
+woven-ring : (ring : List Float) (from i : ℕ) → i < 74 → woven (everySecondOf ring from) (everySecondOf ring (from + 1)) i ≡ ringAt ring from i
+unfolding everySecondOf
 woven-ring ring from i h = ⊎-elim
     (λ (z : i % 2 < 1). let m : i ≡ 2 * (i / 2) = omega arith in
     sym (woven-even _ (upto (secondAt ring (from + 1)) 37) i (i / 2) m) ∙ upto-at (secondAt ring from) 37 (i / 2) nan (omega arith) ∙ ap (λ (z : ℕ). getD ring ((from + z) % 256) nan) (sym m))
@@ -231,19 +231,19 @@ woven-ring ring from i h = ⊎-elim
     sym (woven-odd (upto (secondAt ring from) 37) _ i (i / 2) m) ∙ upto-at (secondAt ring (from + 1)) 37 (i / 2) nan (omega arith) ∙ ap (λ (z : ℕ). getD ring (z % 256) nan) e)
     (lt-or-ge (i % 2) 1)
 
-plane-ring : (ring T : List Float) (from : ℕ) → upto (windowOf (woven (secondsOf ring from) (secondsOf ring (from + 1))) T) 21 ≡ upto (windowOf (ringAt ring from) T) 21
+plane-ring : (ring T : List Float) (from : ℕ) → upto (windowOf (woven (everySecondOf ring from) (everySecondOf ring (from + 1))) T) 21 ≡ upto (windowOf (ringAt ring from) T) 21
 plane-ring ring T from = upto-same _ _ 21 (λ k h. part-same _ _ T k 33 (λ i p. woven-ring ring from i (omega arith)))
 
 windows-ring : (re im T U : List Float) (from : ℕ)
-    → windowsWith (woven (secondsOf re from) (secondsOf re (from + 1))) (woven (secondsOf im from) (secondsOf im (from + 1))) T U ≡ windowsWith (ringAt re from) (ringAt im from) T U
+    → windowsWith (woven (everySecondOf re from) (everySecondOf re (from + 1))) (woven (everySecondOf im from) (everySecondOf im (from + 1))) T U ≡ windowsWith (ringAt re from) (ringAt im from) T U
 unfolding windowsWith
 windows-ring re im T U from = rw (plane-ring re T from, plane-ring im T from, plane-ring re U from, plane-ring im U from)
 
 pub matched-is : (taps derivatives re im er or ei oi T U : List Float) (arm from : ℕ) (w : Windows)
-    → T ≡ armOf taps arm → U ≡ armOf derivatives arm → er ≡ secondsOf re from → or ≡ secondsOf re (from + 1) → ei ≡ secondsOf im from → oi ≡ secondsOf im (from + 1)
+    → T ≡ armTapsOf taps arm → U ≡ armTapsOf derivatives arm → er ≡ everySecondOf re from → or ≡ everySecondOf re (from + 1) → ei ≡ everySecondOf im from → oi ≡ everySecondOf im (from + 1)
     → w ≡ windowsWith (woven er or) (woven ei oi) T U → w ≡ matchedOf taps derivatives re im arm from
 unfolding matchedOf
-matched-is taps derivatives re im er or ei oi T U arm from w t u a b c d h = h ∙ rw (t, u, a, b, c, d) (windows-ring re im (armOf taps arm) (armOf derivatives arm) from)
+matched-is taps derivatives re im er or ei oi T U arm from w t u a b c d h = h ∙ rw (t, u, a, b, c, d) (windows-ring re im (armTapsOf taps arm) (armTapsOf derivatives arm) from)
 
 -- ---- an arm's taps
 pub tap-first : (table : List Float) (arm : ℕ) → arm ≡ 0 → getD table 1024 nan ≡ armTap table arm 0

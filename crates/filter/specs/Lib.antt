@@ -1,3 +1,4 @@
 pub mod Filter
 pub mod Fast
+pub mod Lends
 pub mod Laws

@@ -3,8 +3,8 @@
 // odd places laid out apart, so that their sums stay in registers.
 ghost use mathlib.Core.Path.{_≡_};
 ghost use Prim.Native.Nat.{_<_, _≤_};
-ghost use lib.ListN.{length};
-ghost use Rattle.filter.specs.Filter.{Windows, windowsWith, matchedOf};
+ghost use Rattle.filter.specs.Filter.{windowsWith, matchedOf};
+ghost use Rattle.filter.specs.Lends.{Windowed, given, leaves};
 ghost use Rattle.filter.specs.Fast.{woven, putOf, groupOf};
 
 mod gather;
@@ -14,8 +14,24 @@ use gather::arm_taps;
 use gather::every_second;
 use sums::four_sums;
 
+// The taps of the matched filter, or of its derivative: tap by tap the 32 arms in turn, and a last tap
+// that arm 0 has alone.
+pub const TAPS: usize = 1025;
+
+// The taps of one arm.
+const ARM: usize = 33;
+
+// The places of the ring of samples.
+pub const RING: usize = 256;
+
+// The windows, two samples apart.
+pub const WINDOWS: usize = 21;
+
+// The samples at even places among the 74 that the windows reach, or at odd ones.
+const HALF: usize = 37;
+
 // Four stores from place k on.
-fn put(out: &mut [f32; 21], k: usize, a: f32, b: f32, c: f32, d: f32)
+fn put(out: &mut [f32; WINDOWS], k: usize, a: f32, b: f32, c: f32, d: f32)
     requires { ⌜ k ≤ 17 ⌝ }
     ensures { λ r. ⌜ now (out .exit) ≡ putOf (now (out .entry)) k a b c d ⌝ }
 {
@@ -36,21 +52,22 @@ fn group(g: usize) -> usize
 
 // All windows, four at a time.
 fn windows(
-    even_real: &[f32; 37],
-    odd_real: &[f32; 37],
-    even_imaginary: &[f32; 37],
-    odd_imaginary: &[f32; 37],
-    taps: &[f32; 33],
-    derivative_taps: &[f32; 33],
-    value_real: &mut [f32; 21],
-    value_imaginary: &mut [f32; 21],
-    derivative_real: &mut [f32; 21],
-    derivative_imaginary: &mut [f32; 21],
+    even_real: &[f32; HALF],
+    odd_real: &[f32; HALF],
+    even_imaginary: &[f32; HALF],
+    odd_imaginary: &[f32; HALF],
+    taps: &[f32; ARM],
+    derivative_taps: &[f32; ARM],
+    value_real: &mut [f32; WINDOWS],
+    value_imaginary: &mut [f32; WINDOWS],
+    derivative_real: &mut [f32; WINDOWS],
+    derivative_imaginary: &mut [f32; WINDOWS],
 )
-    requires { ⌜ length (now «value_real») ≡ 21 ⌝ ∗ ⌜ length (now «value_imaginary») ≡ 21 ⌝ ∗ ⌜ length (now «derivative_real») ≡ 21 ⌝ ∗ ⌜ length (now «derivative_imaginary») ≡ 21 ⌝ }
-    ensures { λ r. ⌜ _≡_ {A = Windows}
-        (record { real = now («value_real» .exit); imaginary = now («value_imaginary» .exit); derivativeReal = now («derivative_real» .exit); derivativeImaginary = now («derivative_imaginary» .exit) })
-        (windowsWith (woven (now («even_real» .entry)) (now («odd_real» .entry))) (woven (now («even_imaginary» .entry)) (now («odd_imaginary» .entry))) (now (taps .entry)) (now («derivative_taps» .entry))) ⌝ }
+    requires { ⌜ given «value_real» «value_imaginary» «derivative_real» «derivative_imaginary» Windowed ⌝ }
+    ensures { λ r. ⌜ leaves «value_real» «value_imaginary» «derivative_real» «derivative_imaginary» (λ _ after. after ≡ windowsWith
+        (woven (now («even_real» .entry)) (now («odd_real» .entry)))
+        (woven (now («even_imaginary» .entry)) (now («odd_imaginary» .entry)))
+        (now (taps .entry)) (now («derivative_taps» .entry))) ⌝ }
 {
     let mut g = 0;
     while g < 6 {
@@ -106,31 +123,30 @@ fn windows(
 
 // The windows that begin at the ring's places from, from + 2, .. from + 40, with the taps of one arm.
 pub fn matched<'a>(
-    taps: &'a [f32; 1025],
-    derivatives: &'a [f32; 1025],
-    ring_real: &'a [f32; 256],
-    ring_imaginary: &'a [f32; 256],
+    taps: &'a [f32; TAPS],
+    derivatives: &'a [f32; TAPS],
+    ring_real: &'a [f32; RING],
+    ring_imaginary: &'a [f32; RING],
     arm: usize,
     from: usize,
-    value_real: &mut [f32; 21],
-    value_imaginary: &mut [f32; 21],
-    derivative_real: &mut [f32; 21],
-    derivative_imaginary: &mut [f32; 21],
+    value_real: &mut [f32; WINDOWS],
+    value_imaginary: &mut [f32; WINDOWS],
+    derivative_real: &mut [f32; WINDOWS],
+    derivative_imaginary: &mut [f32; WINDOWS],
 )
     requires { ⌜ arm < 32 ⌝ ∗ ⌜ from < 256 ⌝ }
-    requires { ⌜ length (now «value_real») ≡ 21 ⌝ ∗ ⌜ length (now «value_imaginary») ≡ 21 ⌝ ∗ ⌜ length (now «derivative_real») ≡ 21 ⌝ ∗ ⌜ length (now «derivative_imaginary») ≡ 21 ⌝ }
-    ensures { λ r. ⌜ _≡_ {A = Windows}
-        (record { real = now («value_real» .exit); imaginary = now («value_imaginary» .exit); derivativeReal = now («derivative_real» .exit); derivativeImaginary = now («derivative_imaginary» .exit) })
-        (matchedOf (now (taps .entry)) (now (derivatives .entry)) (now («ring_real» .entry)) (now («ring_imaginary» .entry)) arm from) ⌝ }
+    requires { ⌜ given «value_real» «value_imaginary» «derivative_real» «derivative_imaginary» Windowed ⌝ }
+    ensures { λ r. ⌜ leaves «value_real» «value_imaginary» «derivative_real» «derivative_imaginary» (λ _ after. after ≡ matchedOf
+        (now (taps .entry)) (now (derivatives .entry)) (now («ring_real» .entry)) (now («ring_imaginary» .entry)) arm from) ⌝ }
 {
-    let mut arm_values = [0.0; 33];
-    let mut arm_derivatives = [0.0; 33];
+    let mut arm_values = [0.0; ARM];
+    let mut arm_derivatives = [0.0; ARM];
     arm_taps(taps, arm, &mut arm_values);
     arm_taps(derivatives, arm, &mut arm_derivatives);
-    let mut even_real = [0.0; 37];
-    let mut odd_real = [0.0; 37];
-    let mut even_imaginary = [0.0; 37];
-    let mut odd_imaginary = [0.0; 37];
+    let mut even_real = [0.0; HALF];
+    let mut odd_real = [0.0; HALF];
+    let mut even_imaginary = [0.0; HALF];
+    let mut odd_imaginary = [0.0; HALF];
     every_second(ring_real, from, &mut even_real);
     every_second(ring_real, from + 1, &mut odd_real);
     every_second(ring_imaginary, from, &mut even_imaginary);

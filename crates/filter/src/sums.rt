@@ -2,6 +2,8 @@
 ghost use mathlib.Core.Path.{_≡_};
 ghost use Prim.Native.Nat.{_+_, _<_, _≤_};
 ghost use Rattle.filter.specs.Fast.{summedOf, tappedOf, tappedFour, noFour, fourOf, woven};
+use super::ARM;
+use super::HALF;
 use complex::Complex32;
 
 // The running sums of one window.
@@ -40,8 +42,8 @@ fn tapped(s: Sums, real: f32, imaginary: f32, tap: f32, derivative_tap: f32) -> 
 // The four windows' sums with one tap more, on the samples at, at + 1, at + 2, at + 3.
 fn tapped_four(
     s: Four,
-    real: &[f32; 37],
-    imaginary: &[f32; 37],
+    real: &[f32; HALF],
+    imaginary: &[f32; HALF],
     at: usize,
     tap: f32,
     derivative_tap: f32,
@@ -79,6 +81,7 @@ fn tapped_four(
     }
 }
 
+// The sums before the first tap.
 fn no_sums() -> Four
     ensures { λ r. ⌜ r ≡ noFour ⌝ }
 {
@@ -97,16 +100,17 @@ fn no_sums() -> Four
 
 // The sums of the windows k, k + 1, k + 2, k + 3.
 pub fn four_sums(
-    even_real: &[f32; 37],
-    odd_real: &[f32; 37],
-    even_imaginary: &[f32; 37],
-    odd_imaginary: &[f32; 37],
+    even_real: &[f32; HALF],
+    odd_real: &[f32; HALF],
+    even_imaginary: &[f32; HALF],
+    odd_imaginary: &[f32; HALF],
     k: usize,
-    taps: &[f32; 33],
-    derivative_taps: &[f32; 33],
+    taps: &[f32; ARM],
+    derivative_taps: &[f32; ARM],
 ) -> Four
     requires { ⌜ k ≤ 17 ⌝ }
-    ensures { λ r. ⌜ r ≡ fourOf (woven (now («even_real» .entry)) (now («odd_real» .entry))) (woven (now («even_imaginary» .entry)) (now («odd_imaginary» .entry)))
+    ensures { λ r. ⌜ r ≡ fourOf (woven (now («even_real» .entry)) (now («odd_real» .entry)))
+        (woven (now («even_imaginary» .entry)) (now («odd_imaginary» .entry)))
         (now (taps .entry)) (now («derivative_taps» .entry)) k 33 ⌝ }
 {
     let mut s = no_sums();

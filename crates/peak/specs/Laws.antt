@@ -1,25 +1,30 @@
--- What the peak keeper's planes hold: an envelope has no sign, and a new value renews one envelope. Assumes nothing.
+-- What the peak keeper's planes hold: an envelope has no sign, and a new value renews one envelope. The test of a place passes exactly where its ranges hold,
+-- and a value keeps them. Assumes nothing.
 use mathlib.Core.Path.{_≡_, refl, sym, ap, _∙_, subst}
 use Prim.Native.Nat.{ℕ, _+_, _*_, _%_, _≤_, _<_}
+use native.Mathlib.Nat.{mod-lt}
+use native.Mathlib.Omega.{arith}
 use mathlib.Core.Bool.{Bool, true, false, cond}
 use mathlib.Core.List.{List}
-use lib.Dec.{T, eqb, eqb→eq}
+use lib.Dec.{T, ltb, leb, eqb, eqb→eq, ltb→lt, lt→ltb, leb→le, le→leb}
 use lib.ListN.{length, getD, set, length-set}
 use lib.Seq.{getD-set-same, getD-set-other}
 use lib.Ieee.{Float, nan, inf, fin, up, down, binary32, ofBits, fits, isNan, add, mul, sum, lt}
-use lib.Ieee.Fits.{add-fits, eq→eqb}
+use lib.Ieee.Fits.{add-fits, and-l, and-r, and-i, eq→eqb}
+use lib.Ieee.Bits.{is-true}
 use Rattle.laws.specs.Places.{upto, length-upto, upto-at, upto-is}
 use Rattle.laws.specs.FloatRounding.{signed, round-signed}
 use Rattle.numbers.specs.Numbers.{absOf, minOf, maxOf, signOf}
 use Rattle.complex.specs.declared.Complex32.{Complex32}
-use borrow.Author.Tests.{lt-ltb, le-ltb}
+use borrow.Author.Tests.{lt-ltb, le-ltb, ltb-true}
 use Rattle.complex.specs.Complex.{scaledOf}
 use Rattle.peak.specs.declared.KeeperPlace.{KeeperPlace}
 use Rattle.peak.specs.declared.Kept.{Kept}
 use Rattle.peak.specs.declared.Level.the-variants.{Filling, At}
-use Rattle.peak.specs.Peak.{Ring, Run, smallerShare, envelopeOf, envelopesOf, peakOf, referenceOf, floorOf, gainOf, reliableOf, levelledOf, oldestOf, putIn, keptOf}
+use Rattle.peak.specs.Peak.{freshPlace, admittedOf, Admitted, Ring, Run, smallerShare, envelopeOf, envelopesOf, peakOf, followedOf, floorOf, gainOf, reliableOf, levelledOf, oldestOf, putIn, keptOf}
 use Rattle.peak.specs.Sized.{Sized, none, some}
-use Rattle.peak.specs.Columns.{highestOf, highest-peak}
+use Rattle.peak.specs.Columns.{highestOf}
+use Rattle.peak.specs.ColumnLaws.{highest-peak}
 
 -- ---- a NaN, or no sign
 data Free : Float → Type 0 where
@@ -133,7 +138,7 @@ envelopes-set real imaginary at x y h r i = whole ∙ sym opened
 
 -- ---- what the code makes of its calls
 pub levelled-is : (head : ℕ) (reference peak : Float) (oldest : Complex32) (next least g : Float) (value : Complex32) (reliable : Bool)
-    → next ≡ referenceOf peak reference → least ≡ floorOf next → g ≡ gainOf peak least → value ≡ scaledOf oldest g → reliable ≡ reliableOf peak least
+    → next ≡ followedOf peak reference → least ≡ floorOf next → g ≡ gainOf peak least → value ≡ scaledOf oldest g → reliable ≡ reliableOf peak least
     → _≡_ {A = Kept} (record { place = record { head = head; fill = 64; reference = next }; level = At value reliable }) (levelledOf head reference oldest peak)
 unfolding levelledOf
 levelled-is head reference peak oldest next least g value reliable n l e v r = rw (r, v, e, l, n)
@@ -159,3 +164,34 @@ module _ (place : KeeperPlace) (z : Complex32) (real imaginary : List Float) whe
 pub renews : (sizes real imaginary : List Float) (at : ℕ) (x y e : Float) → sizes ≡ envelopesOf real imaginary → e ≡ envelopeOf x y → at < 64 → length real ≡ 64 → length imaginary ≡ 64
     → set sizes at e ≡ envelopesOf (set real at x) (set imaginary at y)
 renews sizes real imaginary at x y e s h l r i = rw (s, h) (envelopes-set real imaginary at x y l r i)
+
+-- ---- THE TEST AND THE FACTS
+pub admitted-facts : (p : KeeperPlace) → admittedOf p ≡ true → Admitted p
+admitted-facts p e =
+    let t : T (admittedOf p) = rw e tt in
+    record {
+      head = ltb→lt (p .head) 64 (and-l (ltb (p .head) 64) (leb (p .fill) 64) t);
+      fill = leb→le (p .fill) 64 (and-r (ltb (p .head) 64) (leb (p .fill) 64) t);
+    }
+
+pub facts-admitted : (p : KeeperPlace) → Admitted p → admittedOf p ≡ true
+facts-admitted p a = is-true (admittedOf p) (and-i (ltb (p .head) 64) (leb (p .fill) 64) (lt→ltb (p .head) 64 (a .head)) (le→leb (p .fill) 64 (a .fill)))
+
+pub fresh-admitted : Admitted freshPlace
+fresh-admitted = record { head = omega arith; fill = omega arith }
+
+-- ADMITTED IN, ADMITTED OUT
+module _ (p : KeeperPlace) (z : Complex32) (ring : Ring) where
+  abbrev headAfter : ℕ
+  headAfter = (p .head + 1) % 64
+
+  abbrev keptFull : Kept
+  keptFull = levelledOf headAfter (p .reference) (oldestOf (putIn ring (p .head) z) headAfter) (peakOf (envelopesOf (putIn ring (p .head) z .real) (putIn ring (p .head) z .imaginary)))
+
+  pub kept-admitted : Admitted p → Admitted (keptOf p z ring .kept .place)
+  unfolding keptOf levelledOf
+  kept-admitted a = go (ltb (p .fill) 63) refl
+    where
+      go : (b : Bool) → ltb (p .fill) 63 ≡ b → Admitted (cond {A = Kept} b (record { place = record { head = headAfter; fill = p .fill + 1; reference = p .reference }; level = Filling }) keptFull .place)
+      go true e = let k = ltb-true (p .fill) 63 e in record { head = mod-lt (p .head + 1) (omega arith); fill = omega arith }
+      go false e = record { head = mod-lt (p .head + 1) (omega arith); fill = omega arith }

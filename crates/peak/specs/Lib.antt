@@ -1,4 +1,6 @@
 pub mod Peak
-pub mod Sized
 pub mod Columns
+pub mod Lends
+pub mod Sized
+pub mod ColumnLaws
 pub mod Laws

@@ -1,8 +1,8 @@
 -- The peak keeper, as the Rust's symbol chain has it. Definitions only.
-use Prim.Native.Nat.{ℕ, _+_, _%_}
+use Prim.Native.Nat.{ℕ, _+_, _%_, _<_, _≤_}
 use mathlib.Core.Bool.{Bool, _&&_, cond}
 use mathlib.Core.List.{List}
-use lib.Dec.{ltb}
+use lib.Dec.{ltb, leb}
 use lib.ListN.{getD, set}
 use lib.Ieee.{Float, nan, binary32, ofBits, add, mul, div, lt, le}
 use Rattle.laws.specs.Turns.{turns}
@@ -15,12 +15,20 @@ use Rattle.peak.specs.declared.Kept.{Kept}
 use Rattle.peak.specs.declared.Level.the-variants.{Filling, At}
 
 abbrev pub freshPlace : KeeperPlace
-freshPlace = record { head = 0; fill = 0; reference = ofBits binary32 0 }
+freshPlace = record { head = 0; fill = 0; reference = ofBits binary32 0x00000000 }  -- 0
+
+-- ---- the places that may be run: head below 64, fill at most 64, any reference
+abbrev pub admittedOf : KeeperPlace → Bool
+admittedOf p = ltb (p .head) 64 && leb (p .fill) 64
+
+-- the same as facts
+pub record Admitted (p : KeeperPlace) : Type 0 where
+  pub head : p .head < 64
+  pub fill : p .fill ≤ 64
 
 -- ---- the peak
--- 0.4
 abbrev pub smallerShare : Float
-smallerShare = ofBits binary32 0x3ecccccd
+smallerShare = ofBits binary32 0x3ecccccd  -- 0.4
 
 -- the larger part and 0.4 of the smaller, each passing over a NaN
 unfoldable pub envelopeOf : Float → Float → Float
@@ -45,20 +53,22 @@ unfolding turns maxOf ofBits
 peakOf es = turns (peakTurn es) 64 (ofBits binary32 0)
 
 -- ---- the reference, the gain and whether the value is reliable
--- 0.99995, 0.08 and 1e-12
+-- what a reference keeps from value to value: 0.38 of it is left after a second of 19,200
 abbrev pub decay : Float
-decay = ofBits binary32 0x3f7ffcb9
+decay = ofBits binary32 0x3f7ffcb9  -- 0.99995
 
+-- the share of the reference that a reliable peak reaches
 abbrev pub share : Float
-share = ofBits binary32 0x3da3d70a
+share = ofBits binary32 0x3da3d70a  -- 0.08
 
+-- a peak that is not above this is none
 abbrev pub faintest : Float
-faintest = ofBits binary32 0x2b8cbccc
+faintest = ofBits binary32 0x2b8cbccc  -- 1e-12
 
 -- the peak, or the old reference a little less
-unfoldable pub referenceOf : Float → Float → Float
+unfoldable pub followedOf : Float → Float → Float
 unfolding maxOf mul ofBits
-referenceOf peak reference = maxOf peak (mul binary32 reference decay)
+followedOf peak reference = maxOf peak (mul binary32 reference decay)
 
 unfoldable pub floorOf : Float → Float
 unfolding mul ofBits
@@ -68,11 +78,15 @@ unfoldable pub reliableOf : Float → Float → Bool
 unfolding lt le ofBits
 reliableOf peak floor = lt faintest peak && le floor peak
 
+abbrev pub one32 : Float
+one32 = ofBits binary32 0x3f800000  -- 1
+
 unfoldable pub gainOf : Float → Float → Float
 unfolding maxOf div ofBits
-gainOf peak floor = div binary32 (ofBits binary32 0x3f800000) (maxOf (maxOf peak floor) faintest)
+gainOf peak floor = div binary32 one32 (maxOf (maxOf peak floor) faintest)
 
 -- ---- one value kept
+-- the values, part by part
 pub record Ring : Type 0 where
   pub real : List Float
   pub imaginary : List Float
@@ -85,12 +99,13 @@ oldestOf ring head = record { real = getD (ring .real) head nan; imaginary = get
 
 -- once 64 values are in: the reference follows the peak, and the oldest value is given at its gain
 unfoldable pub levelledOf : ℕ → Float → Complex32 → Float → Kept
-unfolding referenceOf floorOf gainOf reliableOf
+unfolding followedOf floorOf gainOf reliableOf
 levelledOf head reference oldest peak =
-    let r = referenceOf peak reference in
+    let r = followedOf peak reference in
     let floor = floorOf r in
     record { place = record { head = head; fill = 64; reference = r }; level = At (scaledOf oldest (gainOf peak floor)) (reliableOf peak floor) }
 
+-- what a value leaves: place and level, and the ring
 pub record Run : Type 0 where
   pub kept : Kept
   pub ring : Ring

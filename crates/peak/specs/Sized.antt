@@ -23,15 +23,17 @@ pub data Sized : Float → Type 0 where
 abbrev pub place : Float → ℕ
 place x = unitsOf binary32 x
 
+-- nothing lies below a NaN
+lt-nan : (x : Float) → lt x nan ≡ false
+unfolding lt
+lt-nan nan = refl
+lt-nan (inf s) = refl
+lt-nan (fin s m e) = refl
+
 -- ---- the larger of two
 pub top-sized : (p e : Float) → Value binary32 p → Sized e → Value binary32 (topOf p e)
 unfolding topOf
-top-sized p nan P none = subst (λ (b : Bool). Value binary32 (cond b nan p)) (sym (nan-above p)) P
-  where
-    nan-above : (p : Float) → lt p nan ≡ false
-    nan-above nan = unfold lt in refl
-    nan-above (inf s) = unfold lt in refl
-    nan-above (fin s m e) = unfold lt in refl
+top-sized p nan P none = subst (λ (b : Bool). Value binary32 (cond b nan p)) (sym (lt-nan p)) P
 top-sized p e P (some E) = go (lt p e)
   where
     go : (b : Bool) → Value binary32 (cond b e p)
@@ -40,13 +42,8 @@ top-sized p e P (some E) = go (lt p e)
 
 pub top-place : (p e : Float) → Value binary32 p → Sized e → place (topOf p e) ≡ max (place p) (place e)
 unfolding topOf
-top-place p nan P none = ap (λ (b : Bool). place (cond b nan p)) (nan-above p) ∙ nothing (place p)
+top-place p nan P none = ap (λ (b : Bool). place (cond b nan p)) (lt-nan p) ∙ nothing (place p)
   where
-    nan-above : (p : Float) → lt p nan ≡ false
-    nan-above nan = unfold lt in refl
-    nan-above (inf s) = unfold lt in refl
-    nan-above (fin s m e) = unfold lt in refl
-
     nothing : (a : ℕ) → a ≡ max a 0
     nothing a = omega arith
 top-place p e P (some E) = ap (λ (b : Bool). place (cond b e p)) (place-order binary32 p e P E) ∙ go (ltb (place p) (place e)) (ltb→lt (place p) (place e)) (nltb→le (place p) (place e))

@@ -4,7 +4,8 @@
 ghost use mathlib.Core.Path.{_≡_};
 ghost use Prim.Native.Nat.{_<_};
 ghost use lib.ListN.{length};
-ghost use Rattle.peak.specs.Peak.{Run, freshPlace, envelopeOf, envelopesOf, topOf, referenceOf, floorOf, gainOf, reliableOf, levelledOf, keptOf};
+ghost use Rattle.peak.specs.Lends.{leaves};
+ghost use Rattle.peak.specs.Peak.{Run, freshPlace, admittedOf, envelopeOf, envelopesOf, topOf, followedOf, floorOf, gainOf, reliableOf, levelledOf, keptOf};
 ghost use Rattle.peak.specs.Columns.{columnOf, columnsOf, quarterOf, highestOf};
 use complex::Complex32;
 use complex::scaled;
@@ -12,6 +13,13 @@ use numbers::compare::abs32;
 use numbers::compare::max32;
 use numbers::compare::min32;
 
+// The values that are kept: at 19,200 a second 3.3 milliseconds, or 16 symbols.
+pub const VALUES: usize = 64;
+
+// The columns by which their peak is taken.
+const COLUMNS: usize = 16;
+
+// Where the next value goes, below 64; how many are in, at most 64; and the reference.
 pub struct KeeperPlace {
     pub head: usize,
     pub fill: usize,
@@ -29,6 +37,7 @@ pub struct Kept {
     pub level: Level,
 }
 
+// A keeper that holds nothing.
 pub fn fresh() -> KeeperPlace
     ensures { λ r. ⌜ r ≡ freshPlace ⌝ }
 {
@@ -39,8 +48,15 @@ pub fn fresh() -> KeeperPlace
     }
 }
 
+// Whether a place may be run, be it fresh or handed in: its head is below 64, its fill at most 64.
+pub fn is_admitted(p: KeeperPlace) -> bool
+    ensures { λ r. ⌜ r ≡ admittedOf p ⌝ }
+{
+    (p.head < VALUES) & (p.fill <= VALUES)
+}
+
 // About the size of a value: its larger part and 0.4 of its smaller.
-pub fn envelope(real: f32, imaginary: f32) -> f32
+fn envelope(real: f32, imaginary: f32) -> f32
     ensures { λ r. ⌜ r ≡ envelopeOf real imaginary ⌝ }
 {
     let a = abs32(real);
@@ -49,81 +65,86 @@ pub fn envelope(real: f32, imaginary: f32) -> f32
 }
 
 // The envelopes of a ring's values.
-pub fn envelopes(real: &[f32; 64], imaginary: &[f32; 64], out: &mut [f32; 64])
+pub fn envelopes(real: &[f32; VALUES], imaginary: &[f32; VALUES], out: &mut [f32; VALUES])
     requires { ⌜ length (now out) ≡ 64 ⌝ }
     ensures { λ _. ⌜ now (out .exit) ≡ envelopesOf (now (real .entry)) (now (imaginary .entry)) ⌝ }
 {
     let mut k = 0;
-    while k < 64 {
+    while k < VALUES {
         out[k] = envelope(real[k], imaginary[k]);
         k += 1;
     }
 }
 
 // The larger of a peak and an envelope, which may be a NaN.
-fn over(peak: f32, e: f32) -> f32
+fn top(peak: f32, e: f32) -> f32
     ensures { λ r. ⌜ r ≡ topOf peak e ⌝ }
 {
     if e > peak { e } else { peak }
 }
 
 // The peak of one column: the envelopes at k, 16 + k, 32 + k and 48 + k.
-fn column(e: &[f32; 64], k: usize) -> f32
+fn column(e: &[f32; VALUES], k: usize) -> f32
     requires { ⌜ k < 16 ⌝ }
     ensures { λ r. ⌜ r ≡ columnOf (now (e .entry)) k ⌝ }
 {
-    over(over(over(over(0.0, e[k]), e[16 + k]), e[32 + k]), e[48 + k])
+    top(top(top(top(0.0, e[k]), e[16 + k]), e[32 + k]), e[48 + k])
 }
 
-fn columns(e: &[f32; 64], peaks: &mut [f32; 16])
+// The peaks of all columns.
+fn columns(e: &[f32; VALUES], peaks: &mut [f32; COLUMNS])
     requires { ⌜ length (now peaks) ≡ 16 ⌝ }
     ensures { λ _. ⌜ now (peaks .exit) ≡ columnsOf (now (e .entry)) ⌝ }
 {
     let mut k = 0;
-    while k < 16 {
+    while k < COLUMNS {
         peaks[k] = column(e, k);
         k += 1;
     }
 }
 
 // The peak of four columns.
-fn quarter(p: &[f32; 16], k: usize) -> f32
+fn quarter(p: &[f32; COLUMNS], k: usize) -> f32
     requires { ⌜ k < 4 ⌝ }
     ensures { λ r. ⌜ r ≡ quarterOf (now (p .entry)) k ⌝ }
 {
-    over(over(over(over(0.0, p[k]), p[4 + k]), p[8 + k]), p[12 + k])
+    top(top(top(top(0.0, p[k]), p[4 + k]), p[8 + k]), p[12 + k])
 }
 
 // The largest of 64 envelopes, by columns that run side by side.
-fn highest(e: &[f32; 64]) -> f32
+fn highest(e: &[f32; VALUES]) -> f32
     ensures { λ r. ⌜ r ≡ highestOf (now (e .entry)) ⌝ }
 {
-    let mut peaks = [0.0; 16];
+    let mut peaks = [0.0; COLUMNS];
     columns(e, &mut peaks);
-    let low = over(quarter(&peaks, 0), quarter(&peaks, 1));
-    let high = over(quarter(&peaks, 2), quarter(&peaks, 3));
-    over(low, high)
+    let low = top(quarter(&peaks, 0), quarter(&peaks, 1));
+    let high = top(quarter(&peaks, 2), quarter(&peaks, 3));
+    top(low, high)
 }
 
-// A reference that decays by about a third in a second of values.
+// The peak, or the reference times 0.99995: in a second of 19,200 values without a peak it falls to
+// 0.38 of what it was.
 fn followed(peak: f32, reference: f32) -> f32
-    ensures { λ r. ⌜ r ≡ referenceOf peak reference ⌝ }
+    ensures { λ r. ⌜ r ≡ followedOf peak reference ⌝ }
 {
     max32(peak, reference * 0.99995)
 }
 
+// A peak under 0.08 of the reference is too faint to rely on, and is amplified no further.
 fn floor(reference: f32) -> f32
     ensures { λ r. ⌜ r ≡ floorOf reference ⌝ }
 {
     reference * 0.08
 }
 
+// Whether a value at this peak can be relied on.
 fn is_reliable(peak: f32, floor: f32) -> bool
     ensures { λ r. ⌜ r ≡ reliableOf peak floor ⌝ }
 {
     (peak > 1e-12) & (peak >= floor)
 }
 
+// What brings the peak to 1, or the floor or 1e-12 where that is larger.
 fn gain(peak: f32, floor: f32) -> f32
     ensures { λ r. ⌜ r ≡ gainOf peak floor ⌝ }
 {
@@ -140,32 +161,33 @@ fn levelled(head: usize, reference: f32, oldest: Complex32, peak: f32) -> Kept
     let level = Level::At(value, is_reliable(peak, least));
     let place = KeeperPlace {
         head,
-        fill: 64,
+        fill: VALUES,
         reference: next,
     };
     Kept { place, level }
 }
 
-// One value more. The third plane holds the envelopes of the first two, before and after.
+// One value more, in the place of the oldest. The third plane holds the envelopes of the first two,
+// before and after.
 pub fn keep(
     place: KeeperPlace,
     value: Complex32,
-    real: &mut [f32; 64],
-    imaginary: &mut [f32; 64],
-    sizes: &mut [f32; 64],
+    real: &mut [f32; VALUES],
+    imaginary: &mut [f32; VALUES],
+    sizes: &mut [f32; VALUES],
 ) -> Kept
     requires { ⌜ place .head < 64 ⌝ }
     requires { ⌜ length (now real) ≡ 64 ⌝ }
     requires { ⌜ length (now imaginary) ≡ 64 ⌝ }
     requires { ⌜ now sizes ≡ envelopesOf (now real) (now imaginary) ⌝ }
-    ensures same { λ r. ⌜ _≡_ {A = Run} (record { kept = r; ring = record { real = now (real .exit); imaginary = now (imaginary .exit) } }) (keptOf place value (record { real = now (real .entry); imaginary = now (imaginary .entry) })) ⌝ }
+    ensures same { λ r. ⌜ leaves real imaginary (λ ring after. _≡_ {A = Run} (record { kept = r; ring = after }) (keptOf place value ring)) ⌝ }
     ensures envelopes { λ r. ⌜ now (sizes .exit) ≡ envelopesOf (now (real .exit)) (now (imaginary .exit)) ⌝ }
 {
     let at = place.head;
     real[at] = value.real;
     imaginary[at] = value.imaginary;
     sizes[at] = envelope(value.real, value.imaginary);
-    let head = (at + 1) % 64;
+    let head = (at + 1) % VALUES;
     if place.fill < 63 {
         let filling = KeeperPlace {
             head,

@@ -93,7 +93,7 @@ last-few v n = length-upto _ n
 
 shown-few : (zs : List Complex32) (l : List Float) → length zs ≤ length l / 2 → OnlyFirst (2 * signal.shownOf zs l .reading .count) l (signal.shownOf zs l .output)
 unfolding signal.shownOf signal.writtenOf
-shown-few zs l h = go (signal.isUsable (length zs) (signal.meanPower zs))
+shown-few zs l h = go (signal.usableOf (length zs) (signal.meanPower zs))
   where
     a : Float
     a = sqrtOf binary64 (signal.meanPower zs)

@@ -1,14 +1,14 @@
 -- The stage's definition met from what its parts answer, one law for each way out of a function, and the ranges that each step keeps. Assumes nothing.
-use mathlib.Core.Path.{_≡_, refl, sym, ap, _∙_, subst}
-use Prim.Native.Nat.{ℕ, zero, suc, _+_, _%_, _≤_, _<_}
-use native.Mathlib.Nat.{mod-lt}
+use mathlib.Core.Path.{_≡_, refl, sym, ap, ap₂, _∙_, subst}
+use Prim.Native.Nat.{ℕ, zero, suc, _+_, _≤_, _<_}
 use native.Mathlib.Omega.{arith}
-use mathlib.Core.Bool.{Bool, true, false, cond}
+use mathlib.Core.Bool.{Bool, true, false, _&&_}
 use mathlib.Core.List.{List}
-use lib.Dec.{ltb}
-use lib.ListN.{set, length-set}
-use lib.Ieee.{Float, binary32, ofBits, neg, lt}
-use borrow.Author.Tests.{ltb-true}
+use lib.Dec.{T}
+use lib.ListN.{length, set, length-set}
+use lib.Ieee.{Float, ofBits, neg, lt}
+use lib.Ieee.Bits.{is-true}
+use lib.Ieee.Fits.{and-l, and-r}
 use Rattle.laws.specs.Turns.{turns, turns-start, turns-step}
 use Rattle.complex.specs.declared.Complex32.{Complex32}
 use Rattle.peak.specs.declared.KeeperPlace.{KeeperPlace}
@@ -16,24 +16,26 @@ use Rattle.peak.specs.declared.Kept.{Kept}
 use Rattle.peak.specs.declared.Level.{Level}
 use Rattle.peak.specs.declared.Level.the-variants.{Filling, At}
 use Rattle.peak.specs.Peak as Peak
+use Rattle.peak.specs.Laws as PeakLaws
 use Rattle.filter.specs.Filter.{Windows}
 use Rattle.clock.specs.declared.ClockPlace.{ClockPlace}
-use Rattle.clock.specs.declared.Answer.{Answer}
-use Rattle.clock.specs.declared.Answer.the-variants.{NoSymbol, Symbol}
+use Rattle.clock.specs.declared.Due.{Due}
+use Rattle.clock.specs.declared.Due.the-variants.{NoSymbol, Symbol}
 use Rattle.clock.specs.Clock as Clock
-use Rattle.clock.specs.Ranges.{ErrorFits, After}
+use Rattle.clock.specs.Ranges.{minusOne, one32, ErrorFits, After}
 use Rattle.clock.specs.Laws.{after-of, stepped-place, update-kept}
-use Rattle.clock.specs.AdmittedLaws.{within-from}
+use Rattle.clock.specs.AdmittedLaws as ClockLaws
 use Rattle.taps.specs.declared.Tables.{Tables}
 use Rattle.taps.specs.Taps.{bothTables}
 use Rattle.equalizer.specs.Equalizer as Equalizer
 use Rattle.equalizer.specs.Laws.{timing-not-below, timing-not-above}
 use Rattle.tracker.specs.Tracker.{pointAt}
+use Rattle.recovery.specs.declared.RecoveryPlace.{RecoveryPlace}
 use Rattle.recovery.specs.declared.step.Found.{Found}
 use Rattle.recovery.specs.declared.step.Found.the-variants.{Nothing, Here}
-use Rattle.recovery.specs.Recovery.{RecoveryState, Step, withKeeper, withClock, symbolOf, clockedWith, clockRun, levelOf, steppedWith, steppedOf}
+use Rattle.recovery.specs.Recovery.{admittedOf, RecoveryState, Step, withKeeper, withClock, symbolOf, clockedWith, clockRun, levelOf, steppedWith, steppedOf}
 use Rattle.recovery.specs.Rows.{Symbols, Lent, putOf, linkedWith, linkedOf, rowTurn, rowOf, recoveredOf}
-use Rattle.recovery.specs.Ranges.{KeeperRanged, Ranged, Roomy, Asks}
+use Rattle.recovery.specs.Ranges.{Admitted, KeeperRanged, Ranged, Roomy, Asks}
 
 -- ---- a value's three ways
 module _ (taps derivatives : List Float) (s : RecoveryState) (z : Complex32) (k : Peak.Run) (is-kept : k ≡ Peak.keptOf (s .place .keeper) z (s .keeper)) where
@@ -54,7 +56,7 @@ module _ (taps derivatives : List Float) (s : RecoveryState) (z : Complex32) (k 
     unfolding levelOf
     clocked-is q e = stepped-is q (e ∙ ap (λ (r : Clock.Run). clockedWith (withKeeper s k) r reliable) is-run ∙ ap (λ (l : Level). levelOf taps derivatives l (withKeeper s k)) (sym is-level))
 
-    pub stepped-waiting : r .stepped .answer ≡ NoSymbol
+    pub stepped-waiting : r .stepped .due ≡ NoSymbol
         → _≡_ {A = Step}
         (record {
           state = record { place = record { keeper = k .kept .place; clock = r .stepped .place }; keeper = k .ring; clock = record { real = r .real; imaginary = r .imaginary }; weights = s .weights };
@@ -64,7 +66,7 @@ module _ (taps derivatives : List Float) (s : RecoveryState) (z : Complex32) (k 
     unfolding symbolOf
     stepped-waiting a = clocked-is _ (rw a)
 
-    pub stepped-here : (arm from : ℕ) (e : Equalizer.Step) (clock : ClockPlace) → r .stepped .answer ≡ Symbol arm from
+    pub stepped-here : (arm from : ℕ) (e : Equalizer.Step) (clock : ClockPlace) → r .stepped .due ≡ Symbol arm from
         → e ≡ Equalizer.equalizedOf (s .weights) (Equalizer.rowOf (r .windows .real) (r .windows .imaginary)) (Equalizer.rowOf (r .windows .derivativeReal) (r .windows .derivativeImaginary)) reliable
         → clock ≡ Clock.updatedOf (r .stepped .place) (e .equalized .timing)
         → _≡_ {A = Step}
@@ -77,31 +79,39 @@ module _ (taps derivatives : List Float) (s : RecoveryState) (z : Complex32) (k 
     stepped-here arm from e clock a is-e is-clock = clocked-is _ (rw (a, is-clock, is-e))
 
 -- ---- ranges
+-- THE TEST AND THE FACTS
+pub admitted-facts : (p : RecoveryPlace) → admittedOf p ≡ true → Admitted p
+admitted-facts p e =
+    let t : T (admittedOf p) = rw e tt in
+    record {
+      keeper = PeakLaws.admitted-facts (p .keeper) (is-true _ (and-l (Peak.admittedOf (p .keeper)) (Clock.admittedOf (p .clock)) t));
+      clock = ClockLaws.admitted-facts (p .clock) (is-true _ (and-r (Peak.admittedOf (p .keeper)) (Clock.admittedOf (p .clock)) t));
+    }
+
+pub facts-admitted : (p : RecoveryPlace) → Admitted p → admittedOf p ≡ true
+facts-admitted p a = ap₂ _&&_ (PeakLaws.facts-admitted (p .keeper) (a .keeper)) (ClockLaws.facts-admitted (p .clock) (a .clock))
+
+-- a stage whose places are admitted, and whose keeper has its 64 values, is in range
+pub admitted-ranged : (s : RecoveryState) → Admitted (s .place) → length (s .keeper .real) ≡ 64 → length (s .keeper .imaginary) ≡ 64 → Ranged s
+admitted-ranged s a r i = record { keeper = record { head = a .keeper .head; fill = a .keeper .fill; real-size = r; imaginary-size = i }; clock = a .clock }
+
 -- the keeper
 keeper-kept : (p : KeeperPlace) (z : Complex32) (ring : Peak.Ring) → KeeperRanged p ring → KeeperRanged (Peak.keptOf p z ring .kept .place) (Peak.keptOf p z ring .ring)
-unfolding Peak.keptOf Peak.levelledOf
-keeper-kept p z ring h = go (ltb (p .fill) 63) refl
-  where
-    go : (b : Bool) → ltb (p .fill) 63 ≡ b
-        → KeeperRanged
-        (cond {A = Kept} b
-        (record { place = record { head = (p .head + 1) % 64; fill = p .fill + 1; reference = p .reference }; level = Filling })
-        (Peak.levelledOf ((p .head + 1) % 64) (p .reference) (Peak.oldestOf (Peak.putIn ring (p .head) z) ((p .head + 1) % 64)) (Peak.peakOf (Peak.envelopesOf (Peak.putIn ring (p .head) z .real) (Peak.putIn ring (p .head) z .imaginary))))
-        .place)
-        (Peak.putIn ring (p .head) z)
-    go true e = let k = ltb-true (p .fill) 63 e in record { head = mod-lt (p .head + 1) (omega arith); fill = omega arith; real-size = simp length-set (h .real-size); imaginary-size = simp length-set (h .imaginary-size) }
-    go false e = record { head = mod-lt (p .head + 1) (omega arith); fill = omega arith; real-size = simp length-set (h .real-size); imaginary-size = simp length-set (h .imaginary-size) }
+unfolding Peak.keptOf
+keeper-kept p z ring h =
+    let k = PeakLaws.kept-admitted p z ring (record { head = h .head; fill = h .fill }) in
+    record { head = k .head; fill = k .fill; real-size = simp length-set (h .real-size); imaginary-size = simp length-set (h .imaginary-size) }
 
 -- a timing error turns the clock's loop within its ranges
 error-fits : (w x dx : Equalizer.Row) (reliable : Bool) → ErrorFits (Equalizer.equalizedOf w x dx reliable .equalized .timing)
 unfolding Equalizer.equalizedOf ofBits neg
 error-fits w x dx reliable =
-    let t = Equalizer.timingOf (Equalizer.sumsOf w x dx) reliable in
-    let low : lt t (ofBits binary32 0xbf800000) ≡ false = timing-not-below (Equalizer.sumsOf w x dx) reliable in
-    let high : lt (ofBits binary32 0x3f800000) t ≡ false = timing-not-above (Equalizer.sumsOf w x dx) reliable in
-    within-from t (ofBits binary32 0xbf800000) (ofBits binary32 0x3f800000) tt (rw (low, high) tt)
+    let t = Equalizer.timingErrorOf (Equalizer.tapSumsOf w x dx) reliable in
+    let low : lt t minusOne ≡ false = timing-not-below (Equalizer.tapSumsOf w x dx) reliable in
+    let high : lt one32 t ≡ false = timing-not-above (Equalizer.tapSumsOf w x dx) reliable in
+    ClockLaws.within-from t minusOne one32 tt (rw (low, high) tt)
 
-symbol-ranged : (a : Answer) (w : Windows) (s : RecoveryState) (reliable : Bool) → KeeperRanged (s .place .keeper) (s .keeper) → After a (s .place .clock) → Ranged (symbolOf a w s reliable .state)
+symbol-ranged : (a : Due) (w : Windows) (s : RecoveryState) (reliable : Bool) → KeeperRanged (s .place .keeper) (s .keeper) → After a (s .place .clock) → Ranged (symbolOf a w s reliable .state)
 unfolding symbolOf
 symbol-ranged NoSymbol w s reliable k t = record { keeper = k; clock = t }
 symbol-ranged (Symbol arm from) w s reliable k t =
@@ -120,7 +130,7 @@ module _ (taps derivatives : List Float) where
   level-ranged Filling s h = h
   level-ranged (At z reliable) s h =
       let r = clockRun taps derivatives s z in
-      symbol-ranged (r .stepped .answer) (r .windows) (withClock s r) reliable (h .keeper)
+      symbol-ranged (r .stepped .due) (r .windows) (withClock s r) reliable (h .keeper)
       (after-of (s .place .clock) (r .stepped) (h .clock) (stepped-place taps derivatives (s .place .clock) z (s .clock .real) (s .clock .imaginary) _))
 
   pub stepped-ranged : (s : RecoveryState) (z : Complex32) → Ranged s → Ranged (steppedOf taps derivatives s z .state)

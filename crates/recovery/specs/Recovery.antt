@@ -1,5 +1,5 @@
 -- The first stage of the chain: a value moves the peak keeper and the clock and, where the clock has a symbol, the equalizer and the clock's loop. Definitions only.
-use mathlib.Core.Bool.{Bool}
+use mathlib.Core.Bool.{Bool, _&&_}
 use mathlib.Core.List.{List}
 use lib.ListN.{replicate}
 use lib.Ieee.{Float, binary32, ofBits}
@@ -8,14 +8,18 @@ use Rattle.peak.specs.declared.Level.{Level}
 use Rattle.peak.specs.declared.Level.the-variants.{Filling, At}
 use Rattle.peak.specs.Peak as Peak
 use Rattle.filter.specs.Filter.{Windows}
-use Rattle.clock.specs.declared.Answer.{Answer}
-use Rattle.clock.specs.declared.Answer.the-variants.{NoSymbol, Symbol}
+use Rattle.clock.specs.declared.Due.{Due}
+use Rattle.clock.specs.declared.Due.the-variants.{NoSymbol, Symbol}
 use Rattle.clock.specs.Clock as Clock
 use Rattle.equalizer.specs.Equalizer as Equalizer
 use Rattle.tracker.specs.Tracker.{Planes}
 use Rattle.recovery.specs.declared.RecoveryPlace.{RecoveryPlace}
 use Rattle.recovery.specs.declared.step.Found.{Found}
 use Rattle.recovery.specs.declared.step.Found.the-variants.{Nothing, Here}
+
+-- the places that may be run
+abbrev pub admittedOf : RecoveryPlace → Bool
+admittedOf p = Peak.admittedOf (p .keeper) && Clock.admittedOf (p .clock)
 
 -- the stage: its places, the rings of keeper and clock, and the equalizer's weights
 pub record RecoveryState : Type 0 where
@@ -65,18 +69,18 @@ abbrev pub equalizedWith : RecoveryState → Windows → Bool → Equalizer.Step
 equalizedWith s w reliable = Equalizer.equalizedOf (s .weights) (Equalizer.rowOf (w .real) (w .imaginary)) (Equalizer.rowOf (w .derivativeReal) (w .derivativeImaginary)) reliable
 
 -- a clock that has no symbol ends the step there
-unfoldable pub symbolOf : Answer → Windows → RecoveryState → Bool → Step
+unfoldable pub symbolOf : Due → Windows → RecoveryState → Bool → Step
 symbolOf NoSymbol w s reliable = record { state = s; found = Nothing }
 symbolOf (Symbol arm from) w s reliable = withSymbol s (equalizedWith s w reliable) reliable
 
 -- the windows before a symbol is found; only a symbol's are used
 abbrev pub blank : Windows
 blank =
-    let zeros = replicate 21 (ofBits binary32 0) in
+    let zeros = replicate 21 (ofBits binary32 0x00000000) in
     record { real = zeros; imaginary = zeros; derivativeReal = zeros; derivativeImaginary = zeros }
 
 abbrev pub clockedWith : RecoveryState → Clock.Run → Bool → Step
-clockedWith s r reliable = symbolOf (r .stepped .answer) (r .windows) (withClock s r) reliable
+clockedWith s r reliable = symbolOf (r .stepped .due) (r .windows) (withClock s r) reliable
 
 module _ (taps derivatives : List Float) where
   abbrev pub clockRun : RecoveryState → Complex32 → Clock.Run

@@ -5,19 +5,23 @@ ghost use Rattle.peak.specs.Peak.{envelopesOf};
 ghost use Rattle.recovery.specs.Rows.{putOf, linkedOf, rowOf};
 ghost use Rattle.recovery.specs.Ranges.{Roomy, Asks};
 ghost use Rattle.recovery.specs.Lends.{givenSymbols, leavesSymbols, givenRow, leavesRow};
+use super::ROW;
 use super::Recovered;
-use super::TAPS;
 use super::step::Found;
 use super::step::step;
 use complex::Complex32;
+use equalizer::WEIGHTS;
+use filter::RING;
+use filter::TAPS;
+use peak::VALUES;
 
 // A symbol and whether it is reliable, after those that stand in the row.
 fn put(
     found: Found,
     count: usize,
-    symbol_real: &mut [f32; 256],
-    symbol_imaginary: &mut [f32; 256],
-    reliable: &mut [bool; 256],
+    symbol_real: &mut [f32; ROW],
+    symbol_imaginary: &mut [f32; ROW],
+    reliable: &mut [bool; ROW],
 ) -> usize
     requires { ⌜ givenSymbols count «symbol_real» «symbol_imaginary» reliable (Roomy 1) ⌝ }
     ensures { λ r. ⌜ leavesSymbols count r «symbol_real» «symbol_imaginary» reliable (λ b a. a ≡ putOf b found) ⌝ }
@@ -37,16 +41,16 @@ fn link<'a>(
     value: Complex32,
     taps: &'a [f32; TAPS],
     derivatives: &'a [f32; TAPS],
-    sizes: &mut [f32; 64],
-    keeper_real: &mut [f32; 64],
-    keeper_imaginary: &mut [f32; 64],
-    clock_real: &mut [f32; 256],
-    clock_imaginary: &mut [f32; 256],
-    weight_real: &mut [f32; 21],
-    weight_imaginary: &mut [f32; 21],
-    symbol_real: &mut [f32; 256],
-    symbol_imaginary: &mut [f32; 256],
-    reliable: &mut [bool; 256],
+    sizes: &mut [f32; VALUES],
+    keeper_real: &mut [f32; VALUES],
+    keeper_imaginary: &mut [f32; VALUES],
+    clock_real: &mut [f32; RING],
+    clock_imaginary: &mut [f32; RING],
+    weight_real: &mut [f32; WEIGHTS],
+    weight_imaginary: &mut [f32; WEIGHTS],
+    symbol_real: &mut [f32; ROW],
+    symbol_imaginary: &mut [f32; ROW],
+    reliable: &mut [bool; ROW],
 ) -> Recovered
     requires { ⌜ givenRow t «keeper_real» «keeper_imaginary» «clock_real» «clock_imaginary»
         «weight_real» «weight_imaginary» «symbol_real» «symbol_imaginary» reliable (Asks 1) ⌝ }
@@ -79,21 +83,21 @@ fn link<'a>(
 // The first `made` values of a row. The plane of sizes holds the envelopes of the keeper's values.
 pub fn row<'a>(
     first: Recovered,
-    row_real: &[f32; 256],
-    row_imaginary: &[f32; 256],
+    row_real: &[f32; ROW],
+    row_imaginary: &[f32; ROW],
     made: usize,
     taps: &'a [f32; TAPS],
     derivatives: &'a [f32; TAPS],
-    sizes: &mut [f32; 64],
-    keeper_real: &mut [f32; 64],
-    keeper_imaginary: &mut [f32; 64],
-    clock_real: &mut [f32; 256],
-    clock_imaginary: &mut [f32; 256],
-    weight_real: &mut [f32; 21],
-    weight_imaginary: &mut [f32; 21],
-    symbol_real: &mut [f32; 256],
-    symbol_imaginary: &mut [f32; 256],
-    reliable: &mut [bool; 256],
+    sizes: &mut [f32; VALUES],
+    keeper_real: &mut [f32; VALUES],
+    keeper_imaginary: &mut [f32; VALUES],
+    clock_real: &mut [f32; RING],
+    clock_imaginary: &mut [f32; RING],
+    weight_real: &mut [f32; WEIGHTS],
+    weight_imaginary: &mut [f32; WEIGHTS],
+    symbol_real: &mut [f32; ROW],
+    symbol_imaginary: &mut [f32; ROW],
+    reliable: &mut [bool; ROW],
 ) -> Recovered
     requires { ⌜ givenRow first «keeper_real» «keeper_imaginary» «clock_real» «clock_imaginary»
         «weight_real» «weight_imaginary» «symbol_real» «symbol_imaginary» reliable (Asks made) ⌝ }

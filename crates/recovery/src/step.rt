@@ -5,11 +5,15 @@ ghost use Rattle.recovery.specs.Recovery.{Step, steppedOf};
 ghost use Rattle.recovery.specs.Ranges.{Ranged};
 ghost use Rattle.recovery.specs.Lends.{given, leaves};
 use super::RecoveryPlace;
-use super::TAPS;
 use clock::update;
 use complex::Complex32;
+use equalizer::WEIGHTS;
 use equalizer::equalize;
+use filter::RING;
+use filter::TAPS;
+use filter::WINDOWS;
 use peak::Level;
+use peak::VALUES;
 use peak::keep;
 
 // No symbol, or a symbol and whether it is reliable.
@@ -18,6 +22,7 @@ pub enum Found {
     Here(Complex32, bool),
 }
 
+// The places after a value, and its symbol, where there is one.
 pub struct Stepped {
     pub place: RecoveryPlace,
     pub found: Found,
@@ -30,13 +35,13 @@ pub fn step<'a>(
     value: Complex32,
     taps: &'a [f32; TAPS],
     derivatives: &'a [f32; TAPS],
-    sizes: &mut [f32; 64],
-    keeper_real: &mut [f32; 64],
-    keeper_imaginary: &mut [f32; 64],
-    clock_real: &mut [f32; 256],
-    clock_imaginary: &mut [f32; 256],
-    weight_real: &mut [f32; 21],
-    weight_imaginary: &mut [f32; 21],
+    sizes: &mut [f32; VALUES],
+    keeper_real: &mut [f32; VALUES],
+    keeper_imaginary: &mut [f32; VALUES],
+    clock_real: &mut [f32; RING],
+    clock_imaginary: &mut [f32; RING],
+    weight_real: &mut [f32; WEIGHTS],
+    weight_imaginary: &mut [f32; WEIGHTS],
 ) -> Stepped
     requires { ⌜ given p «keeper_real» «keeper_imaginary» «clock_real» «clock_imaginary» «weight_real» «weight_imaginary» Ranged ⌝ }
     requires { ⌜ now sizes ≡ envelopesOf (now «keeper_real») (now «keeper_imaginary») ⌝ }
@@ -59,10 +64,10 @@ pub fn step<'a>(
             found: Found::Nothing,
         };
     };
-    let mut value_real = [0.0; 21];
-    let mut value_imaginary = [0.0; 21];
-    let mut derivative_real = [0.0; 21];
-    let mut derivative_imaginary = [0.0; 21];
+    let mut value_real = [0.0; WINDOWS];
+    let mut value_imaginary = [0.0; WINDOWS];
+    let mut derivative_real = [0.0; WINDOWS];
+    let mut derivative_imaginary = [0.0; WINDOWS];
     let t = clock::step(
         clock,
         sample,
@@ -76,8 +81,8 @@ pub fn step<'a>(
         &mut derivative_imaginary,
     );
     let ticked = t.place;
-    let tick = t.answer;
-    let clock::Answer::Symbol(_, _) = tick else {
+    let due = t.due;
+    let clock::Due::Symbol(_, _) = due else {
         let place = RecoveryPlace {
             keeper: keeper_after,
             clock: ticked,

@@ -416,7 +416,7 @@ fn answer(q: Request)
     let keeper = q.keeper;
     let clock = q.clock;
     let turn = q.turn;
-    if !clock::admitted(clock) {
+    if !clock::is_admitted(clock) {
         io::write_all(1, b"not admitted\n");
         return;
     }

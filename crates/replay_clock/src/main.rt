@@ -2,8 +2,8 @@
 // writes a line for each: the digest of the place after it and, for a sample, of its windows.
 ghost use Prim.Native.Nat.{_≤_};
 ghost use lib.ListN.{length};
-use clock::Answer;
 use clock::ClockPlace;
+use clock::Due;
 use complex::Complex32;
 use replay::any;
 use replay::mixed;
@@ -16,6 +16,14 @@ use replay::word;
 // A record: what is done, and two words of operands.
 const RECORD: usize = 24;
 
+// The taps of the matched filter, the places of the clock's ring, and the windows.
+const TAPS: usize = 1025;
+
+const RING: usize = 256;
+
+const WINDOWS: usize = 21;
+
+// A sample of any two floats.
 fn sample(b: u64, c: u64) -> Complex32 {
     Complex32 {
         real: any(b),
@@ -23,6 +31,7 @@ fn sample(b: u64, c: u64) -> Complex32 {
     }
 }
 
+// A place of any numbers, admitted or not.
 fn handed_in(b: u64, c: u64) -> ClockPlace {
     ClockPlace {
         start: (c % 65536) as usize,
@@ -34,6 +43,7 @@ fn handed_in(b: u64, c: u64) -> ClockPlace {
     }
 }
 
+// The digest with a place in it.
 fn mixed_place(h: u64, c: ClockPlace) -> u64 {
     let h1 = mixed(h, c.start as u64);
     let h2 = mixed(h1, c.count as u64);
@@ -42,14 +52,16 @@ fn mixed_place(h: u64, c: ClockPlace) -> u64 {
     mixed_float32(mixed_float32(h4, c.phase), c.rate)
 }
 
-fn mixed_21(h: u64, values: &[f32; 21]) -> u64 {
+// The digest with a plane of windows in it.
+fn mixed_21(h: u64, values: &[f32; WINDOWS]) -> u64 {
     mixed_plane(h, values)
 }
 
-fn came(answer: Answer) -> bool {
-    match answer {
-        Answer::NoSymbol => false,
-        Answer::Symbol(_, _) => true,
+// Whether a symbol came.
+fn came(due: Due) -> bool {
+    match due {
+        Due::NoSymbol => false,
+        Due::Symbol(_, _) => true,
     }
 }
 
@@ -57,19 +69,19 @@ fn came(answer: Answer) -> bool {
 fn stepped<'a>(
     c: ClockPlace,
     sample: Complex32,
-    taps: &'a [f32; 1025],
-    derivatives: &'a [f32; 1025],
-    real: &mut [f32; 256],
-    imaginary: &mut [f32; 256],
+    taps: &'a [f32; TAPS],
+    derivatives: &'a [f32; TAPS],
+    real: &mut [f32; RING],
+    imaginary: &mut [f32; RING],
 ) -> ClockPlace {
-    if !clock::admitted(c) {
+    if !clock::is_admitted(c) {
         io::write_all(1, b"not admitted\n");
         return c;
     }
-    let mut value_real = [1.5; 21];
-    let mut value_imaginary = [1.5; 21];
-    let mut derivative_real = [1.5; 21];
-    let mut derivative_imaginary = [1.5; 21];
+    let mut value_real = [1.5; WINDOWS];
+    let mut value_imaginary = [1.5; WINDOWS];
+    let mut derivative_real = [1.5; WINDOWS];
+    let mut derivative_imaginary = [1.5; WINDOWS];
     let s = clock::step(
         c,
         sample,
@@ -83,8 +95,8 @@ fn stepped<'a>(
         &mut derivative_imaginary,
     );
     let place = s.place;
-    let answer = s.answer;
-    let h = mixed_place(mixed_flag(0, came(answer)), place);
+    let due = s.due;
+    let h = mixed_place(mixed_flag(0, came(due)), place);
     let values = mixed_21(mixed_21(h, &value_real), &value_imaginary);
     let all = mixed_21(mixed_21(values, &derivative_real), &derivative_imaginary);
     print_line(all, 16);
@@ -94,11 +106,11 @@ fn stepped<'a>(
 // The place after one record.
 fn played<'a>(
     place: ClockPlace,
-    record: &[u8; 24],
-    taps: &'a [f32; 1025],
-    derivatives: &'a [f32; 1025],
-    real: &mut [f32; 256],
-    imaginary: &mut [f32; 256],
+    record: &[u8; RECORD],
+    taps: &'a [f32; TAPS],
+    derivatives: &'a [f32; TAPS],
+    real: &mut [f32; RING],
+    imaginary: &mut [f32; RING],
 ) -> ClockPlace {
     let a = word(record, 0);
     let b = word(record, 8);
@@ -117,10 +129,10 @@ fn played<'a>(
 
 fn main() {
     let t = taps::both_tables();
-    let mut real = [0.0; 256];
-    let mut imaginary = [0.0; 256];
+    let mut real = [0.0; RING];
+    let mut imaginary = [0.0; RING];
     let mut place = clock::fresh();
-    let mut record = [0u8; 24];
+    let mut record = [0u8; RECORD];
     let mut left: u64 = 1000000;
     while left > 0 {
         let got = io::read_full(0, &mut record);

@@ -2,6 +2,7 @@
 // digest of its symbol, its timing error and all its weights.
 ghost use Prim.Native.Nat.{_+_, _*_, _≤_};
 use equalizer::Equalized;
+use equalizer::WEIGHTS;
 use numbers::bits::decoded32;
 use replay::mixed_float32;
 use replay::mixed_plane;
@@ -11,12 +12,12 @@ use replay::print_line;
 const RECORD: usize = 508;
 
 // The plane from a place on.
-fn plane(record: &[u8; 508], from: usize) -> [f32; 21]
+fn plane(record: &[u8; RECORD], from: usize) -> [f32; WEIGHTS]
     requires { ⌜ from + 84 ≤ 508 ⌝ }
 {
-    let mut values = [0.0; 21];
+    let mut values = [0.0; WEIGHTS];
     let mut k = 0;
-    while k < 21 {
+    while k < WEIGHTS {
         let at = from + 4 * k;
         values[k] = decoded32([record[at], record[at + 1], record[at + 2], record[at + 3]]);
         k += 1;
@@ -24,14 +25,15 @@ fn plane(record: &[u8; 508], from: usize) -> [f32; 21]
     values
 }
 
-fn told(equalized: Equalized, wr: &[f32; 21], wi: &[f32; 21]) -> u64 {
+// The digest of a symbol, its timing error and all weights.
+fn told(equalized: Equalized, wr: &[f32; WEIGHTS], wi: &[f32; WEIGHTS]) -> u64 {
     let value = equalized.value;
     let h = mixed_float32(mixed_float32(0, value.real), value.imaginary);
     mixed_plane(mixed_plane(mixed_float32(h, equalized.timing), wr), wi)
 }
 
 // One step: flag 1 says reliable, flag 2 that the weights are handed in.
-fn played(record: &[u8; 508], wr: &mut [f32; 21], wi: &mut [f32; 21]) {
+fn played(record: &[u8; RECORD], wr: &mut [f32; WEIGHTS], wi: &mut [f32; WEIGHTS]) {
     let flags = record[0];
     if flags / 2 % 2 == 1 {
         *wr = plane(record, 4);
@@ -48,7 +50,7 @@ fn played(record: &[u8; 508], wr: &mut [f32; 21], wi: &mut [f32; 21]) {
 fn main() {
     let mut wr = equalizer::fresh_real();
     let mut wi = equalizer::fresh_imaginary();
-    let mut record = [0u8; 508];
+    let mut record = [0u8; RECORD];
     let mut left: u64 = 1000000;
     while left > 0 {
         let got = io::read_full(0, &mut record);

@@ -10,9 +10,11 @@ use replay::mixed_float32;
 use replay::mixed_plane;
 use replay::print_line;
 use replay::word;
+use signal::POINTS;
 use signal::Reading;
 use signal::ViewPlace;
 
+// A symbol of any two floats, or none.
 fn observation(present: bool, b: u64, c: u64) -> Observation {
     if present {
         Observation::Present(Complex32 {
@@ -27,13 +29,13 @@ fn observation(present: bool, b: u64, c: u64) -> Observation {
 // A read into the first floats of the buffer.
 fn read(
     place: ViewPlace,
-    real: &[f32; 1024],
-    imaginary: &[f32; 1024],
+    real: &[f32; POINTS],
+    imaginary: &[f32; POINTS],
     floats: usize,
     output: &mut [f32],
 ) -> Reading {
-    if place.head < 1024 {
-        if place.count <= 1024 {
+    if place.head < POINTS {
+        if place.count <= POINTS {
             if floats <= output.len() {
                 let lent = &mut output[0..floats];
                 return signal::read(place, real, imaginary, lent);
@@ -46,7 +48,8 @@ fn read(
     }
 }
 
-fn shown(place: ViewPlace, real: &[f32; 1024], imaginary: &[f32; 1024], floats: usize) -> u64 {
+// The digest of what a read answers, and of the whole buffer.
+fn shown(place: ViewPlace, real: &[f32; POINTS], imaginary: &[f32; POINTS], floats: usize) -> u64 {
     let mut output = [0.0; 4001];
     mark(&mut output);
     let reading = read(place, real, imaginary, floats, &mut output);
@@ -54,13 +57,14 @@ fn shown(place: ViewPlace, real: &[f32; 1024], imaginary: &[f32; 1024], floats: 
     mixed_plane(mixed_float(h, reading.error), &output)
 }
 
+// A push into a place that may be run.
 fn pushed(
     place: ViewPlace,
     symbol: Observation,
-    real: &mut [f32; 1024],
-    imaginary: &mut [f32; 1024],
+    real: &mut [f32; POINTS],
+    imaginary: &mut [f32; POINTS],
 ) -> ViewPlace {
-    if place.head < 1024 {
+    if place.head < POINTS {
         signal::push(place, symbol, real, imaginary)
     } else {
         place
@@ -68,7 +72,7 @@ fn pushed(
 }
 
 // The place after a push, and the point that it put in the ring.
-fn told(place: ViewPlace, real: &[f32; 1024], imaginary: &[f32; 1024]) -> u64 {
+fn told(place: ViewPlace, real: &[f32; POINTS], imaginary: &[f32; POINTS]) -> u64 {
     let at = (place.head % 1024 + 1023) % 1024;
     let h = mixed(mixed(0, place.head as u64), place.count as u64);
     mixed_float32(mixed_float32(h, real[at]), imaginary[at])
@@ -80,8 +84,8 @@ fn played(
     kind: u64,
     b: u64,
     c: u64,
-    real: &mut [f32; 1024],
-    imaginary: &mut [f32; 1024],
+    real: &mut [f32; POINTS],
+    imaginary: &mut [f32; POINTS],
 ) -> ViewPlace {
     if kind < 2 {
         let after = pushed(place, observation(kind == 1, b, c), real, imaginary);
@@ -94,8 +98,8 @@ fn played(
 }
 
 fn main() {
-    let mut real = [0.0; 1024];
-    let mut imaginary = [0.0; 1024];
+    let mut real = [0.0; POINTS];
+    let mut imaginary = [0.0; POINTS];
     let mut place = signal::fresh();
     let mut record = [0u8; 24];
     let mut left: u64 = 1000000;

@@ -21,7 +21,7 @@ use Rattle.laws.specs.FloatValues.{round-least}
 use Rattle.signal.specs.Signal.{power64}
 use Rattle.signal.specs.declared.plain.Power.{Power}
 use Rattle.signal.specs.Plain.{isPlain, roundOf}
-use Rattle.signal.specs.Powers.{heardOf, spanOf, noPower, powerStep, leastSpan, arePlain}
+use Rattle.signal.specs.Powers.{noNanOf, spanOf, noPower, powerStep, leastSpan, plainOf}
 use Rattle.signal.specs.Loops.{nextPoint, sumTurn}
 use Rattle.signal.specs.Quotients.{high100, square-is, signed-number}
 use Rattle.signal.specs.Spans.{both-least, plain-where}
@@ -93,19 +93,19 @@ both-bounded a b p q F G h =
     (le-trans' a c high100 (P .left-finite) f tt (P .left) h, le-trans' b c high100 (P .right-finite) f tt (P .right) h)
 
 -- ---- a NaN taken for infinity: the answer is infinity where it would be a NaN, and else it is the same
-pub record Heard (h a : Float) : Type 0 where
-  pub same : h ≡ heardOf a
+pub record NoNan (h a : Float) : Type 0 where
+  pub same : h ≡ noNanOf a
   pub signless : T (signed false h)
 
-number-same : (a : Float) → T (signed false a) → a ≡ heardOf a
+number-same : (a : Float) → T (signed false a) → a ≡ noNanOf a
 number-same a p = sym (cond-no (isNan a) (inf false) a (signed-number false a p))
 
-heard-square : (x : Float) → Heard (mul binary64 (heardOf x) (heardOf x)) (mul binary64 x x)
+no-nan-square : (x : Float) → NoNan (mul binary64 (noNanOf x) (noNanOf x)) (mul binary64 x x)
 unfolding isNan mul
-heard-square nan = record { same = refl; signless = tt }
-heard-square (inf true) = record { same = refl; signless = tt }
-heard-square (inf false) = record { same = refl; signless = tt }
-heard-square (fin s m e) =
+no-nan-square nan = record { same = refl; signless = tt }
+no-nan-square (inf true) = record { same = refl; signless = tt }
+no-nan-square (inf false) = record { same = refl; signless = tt }
+no-nan-square (fin s m e) =
     let p = subst (λ (v : Float). T (signed false v)) (sym (square-is s m e)) (round-signed false binary64 (m * up e * (m * up e)) (down e * down e)) in
     record { same = number-same (mul binary64 (fin s m e) (fin s m e)) p; signless = p }
 
@@ -123,9 +123,9 @@ add-infinite (inf true) p = absurd p
 add-infinite (inf false) p = refl
 add-infinite (fin s m e) p = refl
 
-add-same : (a b : Float) → T (signed false (heardOf a)) → T (signed false (heardOf b)) → add binary64 (heardOf a) (heardOf b) ≡ heardOf (add binary64 a b)
+add-same : (a b : Float) → T (signed false (noNanOf a)) → T (signed false (noNanOf b)) → add binary64 (noNanOf a) (noNanOf b) ≡ noNanOf (add binary64 a b)
 unfolding isNan add
-add-same nan b p q = infinite-add (heardOf b) q
+add-same nan b p q = infinite-add (noNanOf b) q
 add-same (inf s) nan p q = add-infinite (inf s) p
 add-same (fin s m e) nan p q = add-infinite (fin s m e) p
 add-same (inf s) (inf t) p q = number-same (add binary64 (inf s) (inf t)) (signed-add (inf s) (inf t) p q)
@@ -133,8 +133,8 @@ add-same (inf s) (fin t n d) p q = number-same (add binary64 (inf s) (fin t n d)
 add-same (fin s m e) (inf t) p q = number-same (add binary64 (fin s m e) (inf t)) (signed-add (fin s m e) (inf t) p q)
 add-same (fin s m e) (fin t n d) p q = number-same (add binary64 (fin s m e) (fin t n d)) (signed-add (fin s m e) (fin t n d) p q)
 
-heard-add : (g h a b : Float) → Heard g a → Heard h b → Heard (add binary64 g h) (add binary64 a b)
-heard-add g h a b G H = record {
+no-nan-add : (g h a b : Float) → NoNan g a → NoNan h b → NoNan (add binary64 g h) (add binary64 a b)
+no-nan-add g h a b G H = record {
   same = ap₂ (add binary64) (G .same) (H .same) ∙ add-same a b (subst (λ (v : Float). T (signed false v)) (G .same) (G .signless)) (subst (λ (v : Float). T (signed false v)) (H .same) (H .signless));
   signless = signed-add g h (G .signless) (H .signless);
 }
@@ -145,7 +145,7 @@ pub record Told (w : Power) : Type 0 where
   pub up : leastSpan ≤ w .up
   pub sum : T (le (w .sum) high100)
 
-pub told : (w : Power) → arePlain w ≡ true → Told w
+pub told : (w : Power) → plainOf w ≡ true → Told w
 unfolding ofBits
 told w h =
     let t = passes _ h in
@@ -168,18 +168,18 @@ module _ (re im : List Float) (start : ℕ) where
   y-at k = getD im ((start + k) % 1024) nan
 
   abbrev squareOf : Float → Float
-  squareOf x = mul binary64 (heardOf x) (heardOf x)
+  squareOf x = mul binary64 (noNanOf x) (noNanOf x)
 
   abbrev powerAt : ℕ → Float
   powerAt k = add binary64 (squareOf (x-at k)) (squareOf (y-at k))
 
-  heard-power : (k : ℕ) → Heard (powerAt k) (power64 (nextPoint re im start k))
-  heard-power k = heard-add (squareOf (x-at k)) (squareOf (y-at k)) (mul binary64 (x-at k) (x-at k)) (mul binary64 (y-at k) (y-at k)) (heard-square (x-at k)) (heard-square (y-at k))
+  no-nan-power : (k : ℕ) → NoNan (powerAt k) (power64 (nextPoint re im start k))
+  no-nan-power k = no-nan-add (squareOf (x-at k)) (squareOf (y-at k)) (mul binary64 (x-at k) (x-at k)) (mul binary64 (y-at k) (y-at k)) (no-nan-square (x-at k)) (no-nan-square (y-at k))
 
-  pub heard-sum : (n : ℕ) → Heard (powersTo n .sum) (turns (sumTurn re im start power64) n (ofBits binary64 0))
+  pub no-nan-sum : (n : ℕ) → NoNan (powersTo n .sum) (turns (sumTurn re im start power64) n (ofBits binary64 0))
   unfolding turns
-  heard-sum zero = record { same = unfold ofBits isNan in refl; signless = unfold ofBits in tt }
-  heard-sum (suc n) = heard-add (powersTo n .sum) (powerAt n) (turns (sumTurn re im start power64) n (ofBits binary64 0)) (power64 (nextPoint re im start n)) (heard-sum n) (heard-power n)
+  no-nan-sum zero = record { same = unfold ofBits isNan in refl; signless = unfold ofBits in tt }
+  no-nan-sum (suc n) = no-nan-add (powersTo n .sum) (powerAt n) (turns (sumTurn re im start power64) n (ofBits binary64 0)) (power64 (nextPoint re im start n)) (no-nan-sum n) (no-nan-power n)
 
   total-fits : (n : ℕ) → T (fits binary64 (powersTo n .sum))
   unfolding turns
@@ -194,10 +194,10 @@ module _ (re im : List Float) (start : ℕ) where
   unfolding turns
   all-plain zero t k l = absurd (omega arith)
   all-plain (suc n) t k l =
-      let w = both-bounded (powersTo n .sum) (powerAt n) (heard-sum n .signless) (heard-power n .signless) (total-fits n) (add-fits binary64 _ _) (t .sum) in
-      let v = both-bounded (squareOf (x-at n)) (squareOf (y-at n)) (heard-square (x-at n) .signless) (heard-square (y-at n) .signless) (mul-fits binary64 _ _) (mul-fits binary64 _ _) (w .1) in
-      let a = both-least (powersTo n .across) (spanOf (heardOf (x-at n))) (t .across) in
-      let u = both-least (powersTo n .up) (spanOf (heardOf (y-at n))) (t .up) in
+      let w = both-bounded (powersTo n .sum) (powerAt n) (no-nan-sum n .signless) (no-nan-power n .signless) (total-fits n) (add-fits binary64 _ _) (t .sum) in
+      let v = both-bounded (squareOf (x-at n)) (squareOf (y-at n)) (no-nan-square (x-at n) .signless) (no-nan-square (y-at n) .signless) (mul-fits binary64 _ _) (mul-fits binary64 _ _) (w .1) in
+      let a = both-least (powersTo n .across) (spanOf (noNanOf (x-at n))) (t .across) in
+      let u = both-least (powersTo n .up) (spanOf (noNanOf (y-at n))) (t .up) in
       ⊎-elim
       (λ g. all-plain n (record { across = a .0; up = u .0; sum = w .0 }) k g)
       (λ g. subst Plain (sym g) (plain-where (x-at n) (a .1) (v .0), plain-where (y-at n) (u .1) (v .1)))

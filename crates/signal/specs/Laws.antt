@@ -1,4 +1,5 @@
--- What the view shows: after any pushes the latest points in order, also once the ring has gone round, and past them what was there. Assumes nothing.
+-- What the view shows: after any pushes the latest points in order, also once the ring has gone round, and past them what was there. The test of a place
+-- passes exactly where its ranges hold, and a push keeps them. Assumes nothing.
 use mathlib.Core.Path.{_≡_, refl, ap, sym, _∙_}
 use mathlib.Core.Logic.{_⊎_, inl, inr, ⊎-elim}
 use mathlib.Core.List.{List, [], _∷_, _++_, foldl}
@@ -6,15 +7,39 @@ use mathlib.Core.Bool.{Bool, true, false, cond}
 use Prim.Native.Nat.{ℕ, suc, _+_, _-_, _*_, _/_, _%_, _≤_, _<_, min}
 use native.Mathlib.Nat.{mod-lt}
 use native.Mathlib.Omega.{arith}
+use lib.Dec.{T, ltb, leb, ltb→lt, lt→ltb, leb→le, le→leb}
 use lib.ListN.{length, getD, set, take, drop, length-set, length-drop, take-append-drop}
 use lib.Seq.{getD-set-same, getD-set-other, getD-append-add, getD-drop}
 use lib.Ieee.{Float, nan, binary64}
+use lib.Ieee.Bits.{is-true}
+use lib.Ieee.Fits.{and-l, and-r, and-i}
 use Rattle.laws.specs.Places.{upto, upto-at, upto-is, length-upto, le-or}
 use Rattle.laws.specs.Ring.{Spun, Sound, spins, last, last-pushed, lt-or-ge}
 use Rattle.numbers.specs.Root.{sqrtOf}
 use Rattle.complex.specs.declared.Complex32.{Complex32}
 use Rattle.complex.specs.declared.Observation.{Observation}
-use Rattle.signal.specs.Signal.{View, outside, pointAt, pairedOf, pushedOf, ringOf, lastOf, partsOf, writtenOf, isUsable, meanPower, nothing, shownAs, shownOf, readOf}
+use Rattle.signal.specs.declared.ViewPlace.{ViewPlace}
+use Rattle.signal.specs.Signal.{View, freshPlace, admittedOf, Admitted, outside, pointAt, pairedOf, pushedOf, ringOf, lastOf, partsOf, writtenOf, usableOf, meanPower, nothing, shownAs, shownOf, readOf}
+
+-- ---- THE TEST AND THE FACTS
+pub admitted-facts : (p : ViewPlace) → admittedOf p ≡ true → Admitted p
+admitted-facts p e =
+    let t : T (admittedOf p) = rw e tt in
+    record {
+      head = ltb→lt (p .head) 1024 (and-l (ltb (p .head) 1024) (leb (p .count) 1024) t);
+      count = leb→le (p .count) 1024 (and-r (ltb (p .head) 1024) (leb (p .count) 1024) t);
+    }
+
+pub facts-admitted : (p : ViewPlace) → Admitted p → admittedOf p ≡ true
+facts-admitted p a = is-true (admittedOf p) (and-i (ltb (p .head) 1024) (leb (p .count) 1024) (lt→ltb (p .head) 1024 (a .head)) (le→leb (p .count) 1024 (a .count)))
+
+pub fresh-admitted : Admitted freshPlace
+fresh-admitted = record { head = omega arith; count = omega arith }
+
+-- ADMITTED IN, ADMITTED OUT, whatever the count was
+pub pushed-admitted : (v : View) (s : Observation) → Admitted (pushedOf v s .place)
+unfolding pushedOf
+pushed-admitted v s = record { head = mod-lt (v .place .head + 1) (omega arith); count = omega arith }
 
 -- a view whose planes and place are those of a ring of 1,024
 pub record Held (v : View) : Type 0 where
@@ -158,4 +183,4 @@ pub past-kept : (v : View) (l : List Float) (d : Float) (i : ℕ) → readOf v l
 unfolding shownOf
 past-kept v l d i h =
     let zs = lastOf v (min (v .place .count) (length l / 2)) in
-    past-shown (sqrtOf binary64 (meanPower zs)) zs l d i (isUsable (length zs) (meanPower zs)) h
+    past-shown (sqrtOf binary64 (meanPower zs)) zs l d i (usableOf (length zs) (meanPower zs)) h

@@ -2,6 +2,7 @@ pub mod Signal
 pub mod Plain
 pub mod Powers
 pub mod Rows
+pub mod Lends
 pub mod Loops
 pub mod Quotients
 pub mod Spans

@@ -15,8 +15,8 @@ use Rattle.laws.specs.Ring.{latest}
 use Rattle.numbers.specs.Numbers.{convert, isFinite}
 use Rattle.numbers.specs.Root.{sqrtOf}
 use Rattle.complex.specs.declared.Complex32.{Complex32}
-use Rattle.signal.specs.Signal.{View, Written, outside, pointAt, ringOf, lastOf, pointsFrom, summed, meanOf, power64, errorAt, partsOf, writtenOf, isUsable, Read, nothing, shownAs, shownOf, readOf}
-use Rattle.signal.specs.Powers.{heardOf}
+use Rattle.signal.specs.Signal.{View, WrittenPoints, leastPower, hundred, outside, pointAt, ringOf, lastOf, pointsFrom, summed, meanOf, power64, errorAt, partsOf, writtenOf, usableOf, Read, nothing, shownAs, shownOf, readOf}
+use Rattle.signal.specs.Powers.{noNanOf}
 
 -- a loop over places is a fold over the list of what stands there
 pub fold-upto : {A B : Type 0} (h : B → A → B) (g : ℕ → A) (n : ℕ) (b : B) → turns (λ k a. h a (g k)) n b ≡ foldl h b (upto g n)
@@ -61,7 +61,7 @@ module _ (re im : List Float) (from : ℕ) where
     pub written-from : (n : ℕ) (l : List Float) (errors : Float) (output : List Float) → n * 2 ≤ length l
         → errors ≡ turns (sumTurn (errorAt a)) n (ofBits binary64 0)
         → output ≡ turns writeTurn n l
-        → _≡_ {A = Written} (record { errors = errors; output = output }) (writtenOf a (pointsFrom re im from n) l)
+        → _≡_ {A = WrittenPoints} (record { errors = errors; output = output }) (writtenOf a (pointsFrom re im from n) l)
     unfolding writtenOf
     written-from n l errors output h e o =
         rw (e, o, summed-from (errorAt a) n, turns-pairs (λ k. partAt (nextPoint k .real)) (λ k. partAt (nextPoint k .imaginary)) n l h, pairs-from n, length-from n)
@@ -79,19 +79,19 @@ infinite-over nan = refl
 infinite-over (inf t) = refl
 infinite-over (fin t n d) = refl
 
-unusable : (n : ℕ) (power : Float) → isFinite power ≡ false → isUsable n power ≡ false
-unusable n power h = rw h (go (not (eqb n 0)) (not (lt power (ofBits binary64 4427486594234968593))))
+unusable : (n : ℕ) (power : Float) → isFinite power ≡ false → usableOf n power ≡ false
+unusable n power h = rw h (go (not (eqb n 0)) (not (lt power leastPower)))
   where
     go : (b c : Bool) → (b && false && c) ≡ false
     go true c = refl
     go false c = refl
 
 -- where the sum is a NaN, neither it nor infinity in its place is usable
-heard-shown : (n : ℕ) (sum : Float) (f : Float → Read) (r : Read) → cond (isUsable n (meanOf (heardOf sum) n)) (f (meanOf (heardOf sum) n)) r ≡ cond (isUsable n (meanOf sum n)) (f (meanOf sum n)) r
+no-nan-shown : (n : ℕ) (sum : Float) (f : Float → Read) (r : Read) → cond (usableOf n (meanOf (noNanOf sum) n)) (f (meanOf (noNanOf sum) n)) r ≡ cond (usableOf n (meanOf sum n)) (f (meanOf sum n)) r
 unfolding isNan
-heard-shown n nan f r = rw (unusable n (meanOf (inf false) n) (infinite-over _), unusable n (meanOf nan n) (unfold div isFinite in refl))
-heard-shown n (inf s) f r = refl
-heard-shown n (fin s m e) f r = refl
+no-nan-shown n nan f r = rw (unusable n (meanOf (inf false) n) (infinite-over _), unusable n (meanOf nan n) (unfold div isFinite in refl))
+no-nan-shown n (inf s) f r = refl
+no-nan-shown n (fin s m e) f r = refl
 
 module _ (v : View) (l : List Float) (n : ℕ) (sum power : Float) (usable : Bool) (is-count : n ≡ min (v .place .count) (length l / 2)) where
   abbrev pub shownPoints : List Complex32
@@ -100,18 +100,18 @@ module _ (v : View) (l : List Float) (n : ℕ) (sum power : Float) (usable : Boo
   abbrev shownWith : Float → Read
   shownWith p = shownAs n (writtenOf (sqrtOf binary64 p) shownPoints l)
 
-  shown-is : cond (isUsable n (meanOf (summed power64 shownPoints) n)) (shownWith (meanOf (summed power64 shownPoints) n)) (nothing l) ≡ readOf v l
+  shown-is : cond (usableOf n (meanOf (summed power64 shownPoints) n)) (shownWith (meanOf (summed power64 shownPoints) n)) (nothing l) ≡ readOf v l
   unfolding shownOf
   shown-is = rw (← is-count, last-from v n, length-from (v .real) (v .imaginary) ((v .place .head + 1024 - n) % 1024) n)
 
-  module _ (is-sum : sum ≡ heardOf (summed power64 shownPoints)) (is-power : power ≡ meanOf sum n) (is-usable : usable ≡ isUsable n power) where
+  module _ (is-sum : sum ≡ noNanOf (summed power64 shownPoints)) (is-power : power ≡ meanOf sum n) (is-usable : usable ≡ usableOf n power) where
     read-is : cond usable (shownWith power) (nothing l) ≡ readOf v l
-    read-is = rw (is-usable, is-power, is-sum) (heard-shown n (summed power64 shownPoints) shownWith (nothing l) ∙ shown-is)
+    read-is = rw (is-usable, is-power, is-sum) (no-nan-shown n (summed power64 shownPoints) shownWith (nothing l) ∙ shown-is)
 
     pub read-found : (root errors mean size : Float) (output : List Float) → usable ≡ true → root ≡ sqrtOf binary64 power
-        → _≡_ {A = Written} (record { errors = errors; output = output }) (writtenOf root shownPoints l)
+        → _≡_ {A = WrittenPoints} (record { errors = errors; output = output }) (writtenOf root shownPoints l)
         → mean ≡ meanOf errors n → size ≡ sqrtOf binary64 mean
-        → _≡_ {A = Read} (record { reading = record { count = n; error = mul binary64 (ofBits binary64 4636737291354636288) size }; output = output }) (readOf v l)
+        → _≡_ {A = Read} (record { reading = record { count = n; error = mul binary64 hundred size }; output = output }) (readOf v l)
     read-found root errors mean size output taken is-root is-written is-mean is-size =
         rw (is-size, is-mean) (ap (shownAs n) is-written ∙ ap (λ (a : Float). shownAs n (writtenOf a shownPoints l)) is-root ∙ cond-yes usable _ (nothing l) taken ∙ read-is)
 

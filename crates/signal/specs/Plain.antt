@@ -9,35 +9,42 @@ use lib.ListN.{getD, set}
 use lib.Ieee.{Float, nan, binary32, binary64, ofBits, toBits, neg, add, div, le, eq, isNan, fits}
 use Rattle.numbers.specs.Numbers.{convert}
 use Rattle.complex.specs.declared.Complex32.{Complex32}
-use Rattle.signal.specs.Signal.{pointAt, missedBy}
+use Rattle.signal.specs.Signal.{pointAt, missedOf}
 
--- 2 ^ -60 and 2 ^ 60, the same numbers in both formats
-abbrev pub least : Float
-least = ofBits binary32 562036736
+-- the least and the largest size of a plain part that is not zero, and of a plain amplitude: the same numbers in both formats
+abbrev pub leastPart : Float
+leastPart = ofBits binary32 0x21800000  -- 2 ^ -60
 
-abbrev pub most : Float
-most = ofBits binary32 1568669696
+abbrev pub mostPart : Float
+mostPart = ofBits binary32 0x5d800000  -- 2 ^ 60
+
+abbrev pub leastAmplitude : Float
+leastAmplitude = ofBits binary64 0x3c30000000000000  -- 2 ^ -60
+
+abbrev pub mostAmplitude : Float
+mostAmplitude = ofBits binary64 0x43b0000000000000  -- 2 ^ 60
 
 abbrev pub isSized : Float → Bool
-isSized x = le least x || le x (neg least)
+isSized x = le leastPart x || le x (neg leastPart)
 
 -- of a size from 2 ^ -60 to 2 ^ 60, or zero
 abbrev pub isPlain : Float → Bool
-isPlain x = (isSized x && (le x most && le (neg most) x)) || eq (ofBits binary32 0) x
+isPlain x = (isSized x && (le x mostPart && le (neg mostPart) x)) || eq (ofBits binary32 0x00000000) x
 
 -- the parts are plain, and the amplitude too
-abbrev pub isCommon : Bool → Float → Bool
-isCommon plain amplitude = (plain && le (ofBits binary64 4336966441157787648) amplitude) && le amplitude (ofBits binary64 4877398396442247168)
+abbrev pub commonOf : Bool → Float → Bool
+commonOf plain amplitude = (plain && le leastAmplitude amplitude) && le amplitude mostAmplitude
 
+-- an amplitude from 2 ^ -60 to 2 ^ 60
 pub record PlainAmplitude (a : Float) : Type 0 where
-  pub lower : T (le (ofBits binary64 4336966441157787648) a)
-  pub upper : T (le a (ofBits binary64 4877398396442247168))
+  pub lower : T (le leastAmplitude a)
+  pub upper : T (le a mostAmplitude)
 
 -- a number that narrowing meets in its everyday form, or zero: its size less the sign's bit is 0 or a normal f32's
 pub record Usual (x : Float) : Type 0 where
   pub held : T (fits binary64 x)
   pub number : T (not (isNan x))
-  pub range : (toBits binary64 x % 9223372036854775808 ≡ 0) ⊎ ((0x3810000000000000 ≤ toBits binary64 x % 9223372036854775808) × (toBits binary64 x % 9223372036854775808 < 0x47effffff0000000))
+  pub range : (toBits binary64 x % 0x8000000000000000 ≡ 0) ⊎ ((0x3810000000000000 ≤ toBits binary64 x % 0x8000000000000000) × (toBits binary64 x % 0x8000000000000000 < 0x47effffff0000000))
 
 -- the parts at n places from one on
 pub record PlainRun (re im : List Float) (from n : ℕ) : Type 0 where
@@ -51,7 +58,7 @@ pub record PlainRound (re im : List Float) (from n : ℕ) : Type 0 where
 
 -- the error of a point whose quotients are given
 abbrev pub errorFrom : Float → Float → Float
-errorFrom x y = add binary64 (missedBy x) (missedBy y)
+errorFrom x y = add binary64 (missedOf x) (missedOf y)
 
 -- ---- one turn, at a place of the planes and a place among the points
 module _ (re im : List Float) where

@@ -7,40 +7,43 @@ use lib.ListN.{getD}
 use lib.Dec.{leb}
 use lib.Ieee.{Float, nan, inf, binary32, binary64, ofBits, toBits, add, le, isNan, fits}
 use Rattle.signal.specs.declared.plain.Power.{Power}
-use Rattle.signal.specs.Signal.{power64, pointsFrom, summed}
+use Rattle.signal.specs.Signal.{zero64, power64, pointsFrom, summed}
 use Rattle.signal.specs.Plain.{PlainRound}
 
 -- a NaN is taken for infinity
-abbrev pub heardOf : Float → Float
-heardOf x = cond (isNan x) (inf false) x
+abbrev pub noNanOf : Float → Float
+noNanOf x = cond (isNan x) (inf false) x
 
 -- twice the pattern of an f32's size, less 1: the larger the size, the larger it is, and of a zero it is the largest
 abbrev pub spanOf : Float → ℕ
-spanOf x = cond (fits binary32 x) ((toBits binary32 x % 2147483648 * 2 + 4294967295) % 4294967296) 0
+spanOf x = cond (fits binary32 x) ((toBits binary32 x % 0x80000000 * 2 + 0xffffffff) % 0x100000000) 0
 
 -- one point more
-abbrev pub powerWith : Power → Float → Float → Power
-powerWith w x y = record {
-  sum = add binary64 (w .sum) (power64 (record { real = heardOf x; imaginary = heardOf y }));
-  across = min (w .across) (spanOf (heardOf x));
-  up = min (w .up) (spanOf (heardOf y));
+abbrev pub withPointOf : Power → Float → Float → Power
+withPointOf w x y = record {
+  sum = add binary64 (w .sum) (power64 (record { real = noNanOf x; imaginary = noNanOf y }));
+  across = min (w .across) (spanOf (noNanOf x));
+  up = min (w .up) (spanOf (noNanOf y));
 }
 
+-- no point yet
 abbrev pub noPower : Power
-noPower = record { sum = ofBits binary64 0; across = 4294967295; up = 4294967295 }
+noPower = record { sum = zero64; across = 0xffffffff; up = 0xffffffff }
 
 abbrev pub powerStep : List Float → List Float → ℕ → ℕ → Power → Power
-powerStep re im p k w = powerWith w (getD re p nan) (getD im p nan)
+powerStep re im p k w = withPointOf w (getD re p nan) (getD im p nan)
 
--- that of 2 ^ -60
 abbrev pub leastSpan : ℕ
-leastSpan = 1124073471
+leastSpan = 0x42ffffff  -- the span of 2 ^ -60
+
+abbrev pub mostSum : Float
+mostSum = ofBits binary64 0x4630000000000000  -- 2 ^ 100
 
 -- no span is under the least, and the sum is at most 2 ^ 100
-abbrev pub arePlain : Power → Bool
-arePlain w = (leb leastSpan (w .across) && leb leastSpan (w .up)) && le (w .sum) (ofBits binary64 5057542381537067008)
+abbrev pub plainOf : Power → Bool
+plainOf w = (leb leastSpan (w .across) && leb leastSpan (w .up)) && le (w .sum) mostSum
 
 -- the powers of n points from a place on, and that every part is plain where they say so
 pub record PowerOf (re im : List Float) (from n : ℕ) (w : Power) : Type 0 where
-  pub sum : w .sum ≡ heardOf (summed power64 (pointsFrom re im from n))
-  pub plain : arePlain w ≡ true → PlainRound re im from n
+  pub sum : w .sum ≡ noNanOf (summed power64 (pointsFrom re im from n))
+  pub plain : plainOf w ≡ true → PlainRound re im from n

@@ -1,8 +1,8 @@
 -- The constellation view: a push, and a read. Definitions only.
-use Prim.Native.Nat.{ℕ, _+_, _*_, _/_, _%_, min}
+use Prim.Native.Nat.{ℕ, _+_, _*_, _/_, _%_, _<_, _≤_, min}
 use mathlib.Core.List.{List, [], _∷_, _++_, foldl}
 use mathlib.Core.Bool.{Bool, cond, not, _&&_}
-use lib.Dec.{eqb}
+use lib.Dec.{eqb, ltb, leb}
 use lib.IntN.{pos}
 use lib.ListN.{length, getD, set, drop}
 use lib.Ieee.{Float, nan, binary32, binary64, ofBits, ofInt, add, sub, mul, div, lt}
@@ -29,22 +29,31 @@ viewOf p re im = record { place = p; real = re; imaginary = im }
 abbrev pub freshPlace : ViewPlace
 freshPlace = record { previous = Absent; head = 0; count = 0 }
 
+-- ---- the places that may be run: head below 1,024, count at most 1,024, any observation before
+abbrev pub admittedOf : ViewPlace → Bool
+admittedOf p = ltb (p .head) 1024 && leb (p .count) 1024
+
+-- the same as facts
+pub record Admitted (p : ViewPlace) : Type 0 where
+  pub head : p .head < 1024
+  pub count : p .count ≤ 1024
+
 -- ---- a push
 
 -- 1 / sqrt(2) in f32
-abbrev pub rotation : Float
-rotation = ofBits binary32 1060439283
+abbrev pub rootHalf : Float
+rootHalf = ofBits binary32 0x3f3504f3  -- 0.70710677
 
--- turned by pi / 4
-abbrev pub turnedOf : Complex32 → Complex32
-turnedOf z = record {
-  real = mul binary32 (sub binary32 (z .real) (z .imaginary)) rotation;
-  imaginary = mul binary32 (add binary32 (z .real) (z .imaginary)) rotation;
+-- an eighth of a turn on, by pi / 4
+abbrev pub eighthTurnOf : Complex32 → Complex32
+eighthTurnOf z = record {
+  real = mul binary32 (sub binary32 (z .real) (z .imaginary)) rootHalf;
+  imaginary = mul binary32 (add binary32 (z .real) (z .imaginary)) rootHalf;
 }
 
 -- the rotated product
 abbrev pub rotatedOf : Complex32 → Complex32 → Complex32
-rotatedOf previous symbol = turnedOf (conjugateProductOf symbol previous)
+rotatedOf previous symbol = eighthTurnOf (conjugateProductOf symbol previous)
 
 -- a pair of present symbols gives the rotated product; a missing one gives a zero point
 abbrev pub pairedOf : Observation → Observation → Complex32
@@ -83,9 +92,12 @@ pointsFrom real imaginary from n = upto (λ k. pointAt real imaginary ((from + k
 
 -- ---- a read
 
+abbrev pub zero64 : Float
+zero64 = ofBits binary64 0x0000000000000000  -- 0
+
 -- f of each point, added up from the first to the last
 unfoldable pub summed : (Complex32 → Float) → List Complex32 → Float
-summed f zs = foldl (λ sum z. add binary64 sum (f z)) (ofBits binary64 0) zs
+summed f zs = foldl (λ sum z. add binary64 sum (f z)) zero64 zs
 
 abbrev pub meanOf : Float → ℕ → Float
 meanOf sum n = div binary64 sum (ofInt binary64 (pos n))
@@ -97,15 +109,19 @@ power64 z = add binary64 (mul binary64 (z .real) (z .real)) (mul binary64 (z .im
 abbrev pub meanPower : List Complex32 → Float
 meanPower zs = meanOf (summed power64 zs) (length zs)
 
--- the square of how far the size of a part lies from 1 / sqrt(2)
-abbrev pub missedBy : Float → Float
-missedBy part =
-    let distance = sub binary64 (absOf part) (ofBits binary64 4604544271217802189) in
+-- 1 / sqrt(2) in f64: the size of either part of a point of amplitude 1 on a diagonal
+abbrev pub ideal : Float
+ideal = ofBits binary64 0x3fe6a09e667f3bcd  -- 0.7071067811865476
+
+-- the square of how far the size of a part lies from the ideal
+abbrev pub missedOf : Float → Float
+missedOf part =
+    let distance = sub binary64 (absOf part) ideal in
     mul binary64 distance distance
 
 -- a point's error at an amplitude
 abbrev pub errorAt : Float → Complex32 → Float
-errorAt amplitude z = add binary64 (missedBy (div binary64 (z .real) amplitude)) (missedBy (div binary64 (z .imaginary) amplitude))
+errorAt amplitude z = add binary64 (missedOf (div binary64 (z .real) amplitude)) (missedOf (div binary64 (z .imaginary) amplitude))
 
 -- the points over an amplitude, each part narrowed once, real and imaginary in turn
 unfoldable pub partsOf : Float → List Complex32 → List Float
@@ -116,23 +132,30 @@ partsOf amplitude (z ∷ zs) =
     ∷ partsOf amplitude zs
 
 -- the sum of the errors, and the lent floats: the points from the front, and past them what was there
-pub record Written : Type 0 where
+pub record WrittenPoints : Type 0 where
   pub errors : Float
   pub output : List Float
 
-unfoldable pub writtenOf : Float → List Complex32 → List Float → Written
+unfoldable pub writtenOf : Float → List Complex32 → List Float → WrittenPoints
 writtenOf amplitude zs l = record {
   errors = summed (errorAt amplitude) zs;
   output = partsOf amplitude zs ++ drop (length zs * 2) l;
 }
 
--- points there are, and their mean power is finite and not under 1e-12
-abbrev pub isUsable : ℕ → Float → Bool
-isUsable n power = not (eqb n 0) && isFinite power && not (lt power (ofBits binary64 4427486594234968593))
+-- the mean power under which nothing is shown
+abbrev pub leastPower : Float
+leastPower = ofBits binary64 0x3d719799812dea11  -- 1e-12
 
--- in percent
+-- points there are, and their mean power is finite and not under the least
+abbrev pub usableOf : ℕ → Float → Bool
+usableOf n power = not (eqb n 0) && isFinite power && not (lt power leastPower)
+
+abbrev pub hundred : Float
+hundred = ofBits binary64 0x4059000000000000  -- 100
+
+-- the root of the mean square error, in percent
 abbrev pub errorOf : Float → ℕ → Float
-errorOf errors n = mul binary64 (ofBits binary64 4636737291354636288) (sqrtOf binary64 (meanOf errors n))
+errorOf errors n = mul binary64 hundred (sqrtOf binary64 (meanOf errors n))
 
 -- the answer of a read, and the lent floats
 pub record Read : Type 0 where
@@ -141,16 +164,16 @@ pub record Read : Type 0 where
 
 -- nothing is shown
 abbrev pub nothing : List Float → Read
-nothing l = record { reading = record { count = 0; error = ofBits binary64 0 }; output = l }
+nothing l = record { reading = record { count = 0; error = zero64 }; output = l }
 
 -- n points with this power, and what writing them gives
-abbrev pub shownAs : ℕ → Written → Read
+abbrev pub shownAs : ℕ → WrittenPoints → Read
 shownAs n w = record { reading = record { count = n; error = errorOf (w .errors) n }; output = w .output }
 
 -- the points zs, shown
 unfoldable pub shownOf : List Complex32 → List Float → Read
 shownOf zs l =
-    cond (isUsable (length zs) (meanPower zs))
+    cond (usableOf (length zs) (meanPower zs))
     (shownAs (length zs) (writtenOf (sqrtOf binary64 (meanPower zs)) zs l))
     (nothing l)
 

@@ -15,7 +15,7 @@ use Rattle.laws.specs.FloatOrder.{or-l, or-r, →le}
 use Rattle.laws.specs.FloatValues.{no-inf, no-nan-fin}
 use Rattle.laws.specs.FloatParts.{digitsOf, powerOf, finite-field, float-value, digits-ge, digits-none}
 use Rattle.signal.specs.Plain.{isSized, isPlain}
-use Rattle.signal.specs.Powers.{heardOf, spanOf, leastSpan}
+use Rattle.signal.specs.Powers.{noNanOf, spanOf, leastSpan}
 use Rattle.signal.specs.Quotients.{low60, high60, high100, no-digits, within-fin}
 
 pub both-least : (a b : ℕ) → leastSpan ≤ min a b → (leastSpan ≤ a) × (leastSpan ≤ b)
@@ -85,7 +85,7 @@ span-bits k l h =
     (eq-zero-or-pos k)
 
 -- so a part is plain whose span is not too small, and whose square is not too large
-pub plain-where : (x : Float) → leastSpan ≤ spanOf (heardOf x) → T (le (mul binary64 (heardOf x) (heardOf x)) high100) → isPlain x ≡ true
+pub plain-where : (x : Float) → leastSpan ≤ spanOf (noNanOf x) → T (le (mul binary64 (noNanOf x) (noNanOf x)) high100) → isPlain x ≡ true
 unfolding isNan
 plain-where nan h k = absurd (unfold mul le in k)
 plain-where (inf true) h k = absurd (unfold mul le in k)

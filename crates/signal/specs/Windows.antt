@@ -12,10 +12,10 @@ use lib.Ieee.Bits.{is-true}
 use denote.Floats.{passes}
 use Rattle.laws.specs.Turns.{turns, turns-plus, turns-same}
 use Rattle.signal.specs.declared.plain.Power.{Power}
-use Rattle.signal.specs.Signal.{Written, pointsFrom, power64, errorAt, writtenOf}
-use Rattle.signal.specs.Plain.{isPlain, isCommon, PlainAmplitude, PlainRun, PlainRound, sumStep, writeStep, runOf, roundOf}
-use Rattle.signal.specs.Powers.{heardOf, noPower, powerStep, arePlain, PowerOf}
-use Rattle.signal.specs.Bounds.{powersTo, heard-sum, told, all-plain}
+use Rattle.signal.specs.Signal.{WrittenPoints, pointsFrom, power64, errorAt, writtenOf}
+use Rattle.signal.specs.Plain.{leastAmplitude, mostAmplitude, isPlain, commonOf, PlainAmplitude, PlainRun, PlainRound, sumStep, writeStep, runOf, roundOf}
+use Rattle.signal.specs.Powers.{noNanOf, noPower, powerStep, plainOf, PowerOf}
+use Rattle.signal.specs.Bounds.{powersTo, no-nan-sum, told, all-plain}
 use Rattle.signal.specs.Loops.{summed-from, written-from}
 
 module _ (start count first : ℕ) (inside : start < 1024) (most : count ≤ 1024) (is-first : first ≡ min count (1024 - start)) where
@@ -57,7 +57,7 @@ module _ (start count first : ℕ) (inside : start < 1024) (most : count ≤ 102
         → half ≡ turns (runOf (writeStep re im a) start 0) first l
         → errors ≡ turns (runOf (sumStep re im (errorAt a)) 0 first) (count - first) middle
         → output ≡ turns (runOf (writeStep re im a) 0 first) (count - first) half
-        → _≡_ {A = Written} (record { errors = errors; output = output }) (writtenOf a (pointsFrom re im start count) l)
+        → _≡_ {A = WrittenPoints} (record { errors = errors; output = output }) (writtenOf a (pointsFrom re im start count) l)
     written-runs middle errors half output room is-middle is-half is-errors is-output =
         written-from re im start a count l errors output room
         (is-errors ∙ ap (turns (runOf (sumStep re im (errorAt a)) 0 first) (count - first)) is-middle ∙ round-runs (sumStep re im (errorAt a)) (ofBits binary64 0))
@@ -71,22 +71,22 @@ module _ (start count first : ℕ) (inside : start < 1024) (most : count ≤ 102
   power-runs re im middle w is-middle is-last =
       let e : w ≡ powersTo re im start count = is-last ∙ ap (turns (runOf (powerStep re im) 0 first) (count - first)) is-middle ∙ round-runs (powerStep re im) noPower in
       record {
-        sum = ap (λ (p : Power). p .sum) e ∙ heard-sum re im start count .same ∙ ap heardOf (summed-from re im start power64 count);
+        sum = ap (λ (p : Power). p .sum) e ∙ no-nan-sum re im start count .same ∙ ap noNanOf (summed-from re im start power64 count);
         plain = λ h.
-            let P = all-plain re im start count (told (powersTo re im start count) (ap arePlain (sym e) ∙ h)) in
+            let P = all-plain re im start count (told (powersTo re im start count) (ap plainOf (sym e) ∙ h)) in
             record { real = λ k l. P k l .0; imaginary = λ k l. P k l .1 };
       }
 
 -- ---- the test of the common case
-module _ (plain : Bool) (a : Float) (h : isCommon plain a ≡ true) where
-  abbrev first-two : T (plain && le (ofBits binary64 4336966441157787648) a)
-  first-two = and-l (plain && le (ofBits binary64 4336966441157787648) a) (le a (ofBits binary64 4877398396442247168)) (passes _ h)
+module _ (plain : Bool) (a : Float) (h : commonOf plain a ≡ true) where
+  abbrev first-two : T (plain && le leastAmplitude a)
+  first-two = and-l (plain && le leastAmplitude a) (le a mostAmplitude) (passes _ h)
 
   pub common-plain : plain ≡ true
-  common-plain = is-true plain (and-l plain (le (ofBits binary64 4336966441157787648) a) first-two)
+  common-plain = is-true plain (and-l plain (le leastAmplitude a) first-two)
 
   pub plain-amplitude : PlainAmplitude a
   plain-amplitude = record {
-    lower = and-r plain (le (ofBits binary64 4336966441157787648) a) first-two;
-    upper = and-r (plain && le (ofBits binary64 4336966441157787648) a) (le a (ofBits binary64 4877398396442247168)) (passes _ h);
+    lower = and-r plain (le leastAmplitude a) first-two;
+    upper = and-r (plain && le leastAmplitude a) (le a mostAmplitude) (passes _ h);
   }

@@ -4,7 +4,8 @@ ghost use mathlib.Core.Path.{_≡_};
 ghost use mathlib.Core.Bool.{true};
 ghost use Prim.Native.Nat.{_+_, _*_, _<_, _≤_, min};
 ghost use lib.ListN.{length};
-ghost use Rattle.signal.specs.Signal.{viewOf, Written, Read, freshPlace, rotatedOf, pairedOf, pushedOf, pointsFrom, meanOf, missedBy, writtenOf, isUsable, readOf};
+ghost use Rattle.signal.specs.Signal.{WrittenPoints, Read, freshPlace, admittedOf, rotatedOf, pairedOf, pushedOf, meanOf, missedOf, writtenOf, usableOf, readOf};
+ghost use Rattle.signal.specs.Lends.{reads, leaves, readsPoints, leavesFloats};
 ghost use Rattle.signal.specs.Plain.{PlainRound, PlainAmplitude};
 ghost use Rattle.signal.specs.Powers.{PowerOf};
 
@@ -24,9 +25,13 @@ use plain::power_run;
 use roots::sqrt;
 use rows::write_run;
 
-// 1 / sqrt(2), in f32 and in f64.
-const ROTATION: f32 = 0.70710677;
+// The points that the view holds.
+pub const POINTS: usize = 1024;
 
+// 1 / sqrt(2) in f32, by which the sum and the difference of two parts are a turn by pi / 4.
+const ROOT_HALF: f32 = 0.70710677;
+
+// 1 / sqrt(2) in f64, the size of either part of a point of amplitude 1 on a diagonal.
 const IDEAL: f64 = 0.7071067811865476;
 
 // What the view keeps beside its ring: the last observation, where the next point goes, and how
@@ -43,6 +48,7 @@ pub struct Reading {
     pub error: f64,
 }
 
+// A view that holds nothing.
 pub fn fresh() -> ViewPlace
     ensures { λ r. ⌜ r ≡ freshPlace ⌝ }
 {
@@ -53,15 +59,23 @@ pub fn fresh() -> ViewPlace
     }
 }
 
+// Whether a place may be run, be it fresh or handed in: its head is below 1,024, its count at most
+// 1,024.
+pub fn is_admitted(p: ViewPlace) -> bool
+    ensures { λ r. ⌜ r ≡ admittedOf p ⌝ }
+{
+    (p.head < POINTS) & (p.count <= POINTS)
+}
+
 // The symbol times the conjugate of the one before, turned by pi / 4: the turn that the receiver
 // took out is put back, so that the four points stand where the modulation has them.
-pub fn rotated(previous: Complex32, symbol: Complex32) -> Complex32
+fn rotated(previous: Complex32, symbol: Complex32) -> Complex32
     ensures { λ r. ⌜ r ≡ rotatedOf previous symbol ⌝ }
 {
     let product = complex::multiplied_conjugate(symbol, previous);
     Complex32 {
-        real: (product.real - product.imaginary) * ROTATION,
-        imaginary: (product.real + product.imaginary) * ROTATION,
+        real: (product.real - product.imaginary) * ROOT_HALF,
+        imaginary: (product.real + product.imaginary) * ROOT_HALF,
     }
 }
 
@@ -78,6 +92,7 @@ fn paired(previous: Observation, symbol: Observation) -> Complex32
     rotated(before, now)
 }
 
+// The smaller of two numbers.
 fn least(a: usize, b: usize) -> usize
     ensures { λ r. ⌜ r ≡ min a b ⌝ }
 {
@@ -88,18 +103,18 @@ fn least(a: usize, b: usize) -> usize
 fn counted(count: usize) -> usize
     ensures { λ r. ⌜ r ≡ min (count + 1) 1024 ⌝ }
 {
-    if count < 1024 { count + 1 } else { 1024 }
+    if count < POINTS { count + 1 } else { POINTS }
 }
 
 // Puts the point of `symbol` and the observation before it in the place of the oldest.
 pub fn push(
     place: ViewPlace,
     symbol: Observation,
-    real: &mut [f32; 1024],
-    imaginary: &mut [f32; 1024],
+    real: &mut [f32; POINTS],
+    imaginary: &mut [f32; POINTS],
 ) -> ViewPlace
     requires { ⌜ place .head < 1024 ⌝ }
-    ensures { λ r. ⌜ viewOf r (now (real .exit)) (now (imaginary .exit)) ≡ pushedOf (viewOf place (now (real .entry)) (now (imaginary .entry))) symbol ⌝ }
+    ensures { λ r. ⌜ leaves place r real imaginary (λ view after. after ≡ pushedOf view symbol) ⌝ }
 {
     let previous = place.previous;
     let head = place.head;
@@ -108,19 +123,19 @@ pub fn push(
     imaginary[head] = point.imaginary;
     ViewPlace {
         previous: symbol,
-        head: (head + 1) % 1024,
+        head: (head + 1) % POINTS,
         count: counted(place.count),
     }
 }
 
 // The powers of `count` points from `start` on, added up in that order: up to the ring's end, and then
 // from its beginning.
-fn power_sum(real: &[f32; 1024], imaginary: &[f32; 1024], start: usize, count: usize) -> Power
+fn power_sum(real: &[f32; POINTS], imaginary: &[f32; POINTS], start: usize, count: usize) -> Power
     requires { ⌜ start < 1024 ⌝ }
     requires { ⌜ count ≤ 1024 ⌝ }
     ensures { λ r. ⌜ PowerOf (now (real .entry)) (now (imaginary .entry)) start count r ⌝ }
 {
-    let first = least(count, 1024 - start);
+    let first = least(count, POINTS - start);
     let none = Power {
         sum: 0.0,
         across: 0xffff_ffff,
@@ -130,6 +145,7 @@ fn power_sum(real: &[f32; 1024], imaginary: &[f32; 1024], start: usize, count: u
     power_run(real, imaginary, 0, count - first, early)
 }
 
+// A sum over its count.
 fn mean(sum: f64, count: usize) -> f64
     requires { ⌜ count ≤ 1024 ⌝ }
     ensures { λ r. ⌜ r ≡ meanOf sum count ⌝ }
@@ -139,7 +155,7 @@ fn mean(sum: f64, count: usize) -> f64
 
 // The square of how far a part, whatever its sign, lies from the ideal.
 fn missed(part: f64) -> f64
-    ensures { λ r. ⌜ r ≡ missedBy part ⌝ }
+    ensures { λ r. ⌜ r ≡ missedOf part ⌝ }
 {
     let distance = abs(part) - IDEAL;
     distance * distance
@@ -148,8 +164,8 @@ fn missed(part: f64) -> f64
 // Writes `count` points from `start` on over their amplitude, each part rounded once, and adds up
 // their squared errors.
 fn write_points(
-    real: &[f32; 1024],
-    imaginary: &[f32; 1024],
+    real: &[f32; POINTS],
+    imaginary: &[f32; POINTS],
     start: usize,
     count: usize,
     amplitude: f64,
@@ -158,12 +174,13 @@ fn write_points(
     requires { ⌜ start < 1024 ⌝ }
     requires { ⌜ count ≤ 1024 ⌝ }
     requires { ⌜ count * 2 ≤ length (now output) ⌝ }
-    ensures { λ r. ⌜ _≡_ {A = Written} (record { errors = r; output = now (output .exit) }) (writtenOf amplitude (pointsFrom (now (real .entry)) (now (imaginary .entry)) start count) (now (output .entry))) ⌝ }
+    ensures { λ r. ⌜ readsPoints real imaginary start count (λ points. leavesFloats output (λ before after.
+        _≡_ {A = WrittenPoints} (record { errors = r; output = after }) (writtenOf amplitude points before))) ⌝ }
 {
     let mut sum = 0.0f64;
     let mut i = 0;
     while i < count {
-        let at = (start + i) % 1024;
+        let at = (start + i) % POINTS;
         let x = widen(real[at]) / amplitude;
         let y = widen(imaginary[at]) / amplitude;
         sum = sum + (missed(x) + missed(y));
@@ -174,10 +191,11 @@ fn write_points(
     sum
 }
 
-// The same for plain parts and a plain amplitude: up to the ring's end, and then from its beginning.
+// Writes the same where parts and amplitude are plain: up to the ring's end, and then from its
+// beginning.
 fn write_plain(
-    real: &[f32; 1024],
-    imaginary: &[f32; 1024],
+    real: &[f32; POINTS],
+    imaginary: &[f32; POINTS],
     start: usize,
     count: usize,
     amplitude: f64,
@@ -188,9 +206,10 @@ fn write_plain(
     requires { ⌜ count * 2 ≤ length (now output) ⌝ }
     requires { ⌜ PlainRound (now real) (now imaginary) start count ⌝ }
     requires { ⌜ PlainAmplitude amplitude ⌝ }
-    ensures { λ r. ⌜ _≡_ {A = Written} (record { errors = r; output = now (output .exit) }) (writtenOf amplitude (pointsFrom (now (real .entry)) (now (imaginary .entry)) start count) (now (output .entry))) ⌝ }
+    ensures { λ r. ⌜ readsPoints real imaginary start count (λ points. leavesFloats output (λ before after.
+        _≡_ {A = WrittenPoints} (record { errors = r; output = after }) (writtenOf amplitude points before))) ⌝ }
 {
-    let first = least(count, 1024 - start);
+    let first = least(count, POINTS - start);
     let early = write_run(
         real,
         imaginary,
@@ -213,10 +232,10 @@ fn write_plain(
     )
 }
 
-// Either way, by whether the parts are plain.
+// Writes the points by rows where parts and amplitude are plain, and else one by one.
 fn write(
-    real: &[f32; 1024],
-    imaginary: &[f32; 1024],
+    real: &[f32; POINTS],
+    imaginary: &[f32; POINTS],
     start: usize,
     count: usize,
     amplitude: f64,
@@ -227,7 +246,8 @@ fn write(
     requires { ⌜ count ≤ 1024 ⌝ }
     requires { ⌜ count * 2 ≤ length (now output) ⌝ }
     requires { ⌜ (plain ≡ true → PlainRound (now real) (now imaginary) start count) ⌝ }
-    ensures { λ r. ⌜ _≡_ {A = Written} (record { errors = r; output = now (output .exit) }) (writtenOf amplitude (pointsFrom (now (real .entry)) (now (imaginary .entry)) start count) (now (output .entry))) ⌝ }
+    ensures { λ r. ⌜ readsPoints real imaginary start count (λ points. leavesFloats output (λ before after.
+        _≡_ {A = WrittenPoints} (record { errors = r; output = after }) (writtenOf amplitude points before))) ⌝ }
 {
     if is_common(plain, amplitude) {
         write_plain(real, imaginary, start, count, amplitude, output)
@@ -236,8 +256,9 @@ fn write(
     }
 }
 
+// Whether there are points, and their mean power is finite and not under 1e-12.
 fn is_usable(count: usize, power: f64) -> bool
-    ensures { λ r. ⌜ r ≡ isUsable count power ⌝ }
+    ensures { λ r. ⌜ r ≡ usableOf count power ⌝ }
 {
     (count != 0) & is_finite(power) & !(power < 1e-12)
 }
@@ -246,16 +267,17 @@ fn is_usable(count: usize, power: f64) -> bool
 // lent: two to a point, so the room is their number halved.
 pub fn read(
     place: ViewPlace,
-    real: &[f32; 1024],
-    imaginary: &[f32; 1024],
+    real: &[f32; POINTS],
+    imaginary: &[f32; POINTS],
     output: &mut [f32],
 ) -> Reading
     requires { ⌜ place .head < 1024 ⌝ }
     requires { ⌜ place .count ≤ 1024 ⌝ }
-    ensures { λ r. ⌜ _≡_ {A = Read} (record { reading = r; output = now (output .exit) }) (readOf (viewOf place (now (real .entry)) (now (imaginary .entry))) (now (output .entry))) ⌝ }
+    ensures { λ r. ⌜ reads place real imaginary (λ view. leavesFloats output (λ before after.
+        _≡_ {A = Read} (record { reading = r; output = after }) (readOf view before))) ⌝ }
 {
     let count = least(place.count, output.len() / 2);
-    let start = (place.head + 1024 - count) % 1024;
+    let start = (place.head + POINTS - count) % POINTS;
     let powers = power_sum(real, imaginary, start, count);
     let plain = are_plain(powers);
     let power = mean(powers.sum, count);

@@ -9,22 +9,25 @@ ghost use lib.Dec.{T};
 ghost use lib.Ieee.{binary32, binary64, div, isNan, fits};
 ghost use Rattle.laws.specs.Turns.{turns};
 ghost use Rattle.numbers.specs.Numbers.{absOf, convert};
-ghost use Rattle.signal.specs.Plain.{isPlain, Usual, PlainAmplitude, isCommon, errorFrom, runOf};
-ghost use Rattle.signal.specs.Powers.{heardOf, spanOf, powerWith, powerStep, arePlain};
+ghost use Rattle.signal.specs.Plain.{isPlain, Usual, PlainAmplitude, commonOf, errorFrom, runOf};
+ghost use Rattle.signal.specs.Powers.{noNanOf, spanOf, withPointOf, powerStep, plainOf};
 use super::IDEAL;
+use super::POINTS;
 
-// The span of 2 ^ -60, and of a sum of powers 2 ^ 100: no part of it is above 2 ^ 60 then.
+// The span of 2 ^ -60: no part is smaller, unless it is zero.
 const LEAST_SPAN: u32 = 0x42ff_ffff;
 
+// 2 ^ 100: where a sum of powers is at most this, no part is above 2 ^ 60.
 const MOST_SUM: f64 = 1.2676506002282294e30;
 
+// 2 ^ -60 and 2 ^ 60.
 const LEAST_AMPLITUDE: f64 = 8.673617379884035e-19;
 
 const MOST_AMPLITUDE: f64 = 1.152921504606847e18;
 
 // A NaN is taken for infinity: a sum that would be a NaN is infinite then, and is not used either.
-fn heard(x: f32) -> f32
-    ensures same { λ r. ⌜ r ≡ heardOf x ⌝ }
+fn no_nan(x: f32) -> f32
+    ensures same { λ r. ⌜ r ≡ noNanOf x ⌝ }
     ensures number { λ r. ⌜ T (not (isNan r)) ⌝ }
 {
     if x != x { 1.0 / 0.0 } else { x }
@@ -40,6 +43,7 @@ fn span(x: f32) -> u32
     std::num::wrapping_sub_u32(f32::to_bits(x) % 0x8000_0000 * 2, 1)
 }
 
+// The smaller of two spans.
 fn smaller(a: u32, b: u32) -> u32
     ensures { λ r. ⌜ r ≡ min a b ⌝ }
 {
@@ -54,11 +58,12 @@ pub struct Power {
     pub up: u32,
 }
 
+// One point more.
 fn with_point(power: Power, x: f32, y: f32) -> Power
-    ensures { λ r. ⌜ r ≡ powerWith power x y ⌝ }
+    ensures { λ r. ⌜ r ≡ withPointOf power x y ⌝ }
 {
-    let a = heard(x);
-    let b = heard(y);
+    let a = no_nan(x);
+    let b = no_nan(y);
     let u = a as f64;
     let v = b as f64;
     Power {
@@ -70,8 +75,8 @@ fn with_point(power: Power, x: f32, y: f32) -> Power
 
 // The powers of `count` points from the place `from` on, added in that order to the sum before them.
 pub fn power_run(
-    real: &[f32; 1024],
-    imaginary: &[f32; 1024],
+    real: &[f32; POINTS],
+    imaginary: &[f32; POINTS],
     from: usize,
     count: usize,
     before: Power,
@@ -90,19 +95,19 @@ pub fn power_run(
 
 // Whether every part is plain: none is too small, and the sum is not too large.
 pub fn are_plain(power: Power) -> bool
-    ensures { λ r. ⌜ r ≡ arePlain power ⌝ }
+    ensures { λ r. ⌜ r ≡ plainOf power ⌝ }
 {
     (power.across >= LEAST_SPAN) & (power.up >= LEAST_SPAN) & (power.sum <= MOST_SUM)
 }
 
 // Whether the parts are plain, and the amplitude too.
 pub fn is_common(plain: bool, amplitude: f64) -> bool
-    ensures { λ r. ⌜ r ≡ isCommon plain amplitude ⌝ }
+    ensures { λ r. ⌜ r ≡ commonOf plain amplitude ⌝ }
 {
     plain & (amplitude >= LEAST_AMPLITUDE) & (amplitude <= MOST_AMPLITUDE)
 }
 
-// The sign's bit is cleared.
+// The size of a number: its sign's bit is cleared.
 fn size(x: f64) -> f64
     requires { ⌜ Usual x ⌝ }
     ensures { λ r. ⌜ r ≡ absOf x ⌝ }
@@ -110,7 +115,7 @@ fn size(x: f64) -> f64
     f64::from_bits(f64::to_bits(x) % 0x8000_0000_0000_0000)
 }
 
-// The last 29 digits are rounded off in place, to the even one at a tie; what is left is an f32.
+// The nearest f32: the last 29 binary digits are rounded off in place, to the even one at a tie.
 pub fn narrow(x: f64) -> f32
     requires { ⌜ Usual x ⌝ }
     ensures { λ r. ⌜ r ≡ convert binary32 x ⌝ }

@@ -11,10 +11,17 @@ ghost use Rattle.laws.specs.Turns.{turns};
 ghost use Rattle.signal.specs.Signal.{errorAt};
 ghost use Rattle.signal.specs.Plain.{Usual, PlainRun, PlainAmplitude, errorFrom, sumStep, writeStep, runOf};
 ghost use Rattle.signal.specs.Rows.{UsualRow, pointPut, divideTurn, errorTurn, pointTurn};
+use super::POINTS;
 use super::least;
 use super::plain::error;
 use super::plain::narrow;
 use super::plain::quotient;
+
+// The points of a row.
+const ROW: usize = 32;
+
+// Their quotients: the real parts, then the imaginary ones.
+const QUOTIENTS: usize = 64;
 
 // Writes the point of two quotients as the point `at`, and adds its error to the sum before it.
 fn write_point(x: f64, y: f64, at: usize, output: &mut [f32], before: f64) -> f64
@@ -32,32 +39,39 @@ fn write_point(x: f64, y: f64, at: usize, output: &mut [f32], before: f64) -> f6
 
 // Divides `count` points from the place `from` on, a row at most.
 fn divide_row(
-    real: &[f32; 1024],
-    imaginary: &[f32; 1024],
+    real: &[f32; POINTS],
+    imaginary: &[f32; POINTS],
     from: usize,
     count: usize,
     amplitude: f64,
-    row: &mut [f64; 64],
+    row: &mut [f64; QUOTIENTS],
 )
     requires { ⌜ count ≤ 32 ⌝ }
     requires { ⌜ from + count ≤ 1024 ⌝ }
     requires { ⌜ length (now row) ≡ 64 ⌝ }
     requires { ⌜ PlainRun (now real) (now imaginary) from count ⌝ }
     requires { ⌜ PlainAmplitude amplitude ⌝ }
-    ensures { λ _. ⌜ now (row .exit) ≡ turns (divideTurn (now (real .entry)) (now (imaginary .entry)) amplitude from) count (now (row .entry)) ⌝ }
+    ensures { λ _. ⌜ now (row .exit) ≡ turns (divideTurn (now (real .entry)) (now (imaginary .entry)) amplitude from) count
+        (now (row .entry)) ⌝ }
 {
     let mut j = 0;
     while j < count {
         let at = from + j;
         row[j] = quotient(real[at], amplitude);
-        row[32 + j] = quotient(imaginary[at], amplitude);
+        row[ROW + j] = quotient(imaginary[at], amplitude);
         j += 1;
     }
 }
 
 // Writes the first `count` points of a divided row after `done` points, and adds their errors to the
 // sum before them.
-fn write_row(row: &[f64; 64], count: usize, done: usize, output: &mut [f32], before: f64) -> f64
+fn write_row(
+    row: &[f64; QUOTIENTS],
+    count: usize,
+    done: usize,
+    output: &mut [f32],
+    before: f64,
+) -> f64
     requires { ⌜ count ≤ 32 ⌝ }
     requires { ⌜ done + count ≤ 1024 ⌝ }
     requires { ⌜ (done + count) * 2 ≤ length (now output) ⌝ }
@@ -68,7 +82,7 @@ fn write_row(row: &[f64; 64], count: usize, done: usize, output: &mut [f32], bef
     let mut sum = before;
     let mut j = 0;
     while j < count {
-        sum = write_point(row[j], row[32 + j], done + j, &mut *output, sum);
+        sum = write_point(row[j], row[ROW + j], done + j, &mut *output, sum);
         j += 1;
     }
     sum
@@ -76,11 +90,11 @@ fn write_row(row: &[f64; 64], count: usize, done: usize, output: &mut [f32], bef
 
 // Writes a whole row after `done` points, and divides the one from the place `next` on in its stead.
 fn exchange_row(
-    real: &[f32; 1024],
-    imaginary: &[f32; 1024],
+    real: &[f32; POINTS],
+    imaginary: &[f32; POINTS],
     next: usize,
     amplitude: f64,
-    row: &mut [f64; 64],
+    row: &mut [f64; QUOTIENTS],
     done: usize,
     output: &mut [f32],
     before: f64,
@@ -94,13 +108,14 @@ fn exchange_row(
     requires { ⌜ PlainAmplitude amplitude ⌝ }
     ensures errors { λ r. ⌜ r ≡ turns (errorTurn (now (row .entry))) 32 before ⌝ }
     ensures written { λ r. ⌜ now (output .exit) ≡ turns (pointTurn (now (row .entry)) done) 32 (now (output .entry)) ⌝ }
-    ensures divided { λ r. ⌜ now (row .exit) ≡ turns (divideTurn (now (real .entry)) (now (imaginary .entry)) amplitude next) 32 (now (row .entry)) ⌝ }
+    ensures divided { λ r. ⌜ now (row .exit) ≡ turns (divideTurn (now (real .entry)) (now (imaginary .entry)) amplitude next) 32
+        (now (row .entry)) ⌝ }
 {
     let mut sum = before;
     let mut j = 0;
-    while j < 32 {
+    while j < ROW {
         let at = next + j;
-        let up = 32 + j;
+        let up = ROW + j;
         let x = row[j];
         let y = row[up];
         row[j] = quotient(real[at], amplitude);
@@ -114,8 +129,8 @@ fn exchange_row(
 // Writes `count` points from the place `from` on, after `done` points, and adds their errors to the
 // sum before them. What is left after the whole rows is divided and written at the end.
 pub fn write_run(
-    real: &[f32; 1024],
-    imaginary: &[f32; 1024],
+    real: &[f32; POINTS],
+    imaginary: &[f32; POINTS],
     from: usize,
     done: usize,
     count: usize,
@@ -128,11 +143,13 @@ pub fn write_run(
     requires { ⌜ (done + count) * 2 ≤ length (now output) ⌝ }
     requires { ⌜ PlainRun (now real) (now imaginary) from count ⌝ }
     requires { ⌜ PlainAmplitude amplitude ⌝ }
-    ensures errors { λ r. ⌜ r ≡ turns (runOf (sumStep (now (real .entry)) (now (imaginary .entry)) (errorAt amplitude)) from done) count before ⌝ }
-    ensures written { λ r. ⌜ now (output .exit) ≡ turns (runOf (writeStep (now (real .entry)) (now (imaginary .entry)) amplitude) from done) count (now (output .entry)) ⌝ }
+    ensures errors { λ r. ⌜ r ≡ turns (runOf (sumStep (now (real .entry)) (now (imaginary .entry)) (errorAt amplitude)) from done)
+        count before ⌝ }
+    ensures written { λ r. ⌜ now (output .exit) ≡ turns (runOf (writeStep (now (real .entry)) (now (imaginary .entry)) amplitude) from done)
+        count (now (output .entry)) ⌝ }
 {
-    let mut row = [0.0; 64];
-    let first = least(count, 32);
+    let mut row = [0.0; QUOTIENTS];
+    let first = least(count, ROW);
     divide_row(real, imaginary, from, first, amplitude, &mut row);
     let mut sum = before;
     let mut at = 0;
@@ -140,14 +157,14 @@ pub fn write_run(
         sum = exchange_row(
             real,
             imaginary,
-            from + at + 32,
+            from + at + ROW,
             amplitude,
             &mut row,
             done + at,
             &mut *output,
             sum,
         );
-        at += 32;
+        at += ROW;
     }
     sum = write_row(&row, first, done + at, &mut *output, sum);
     at += first;

@@ -1,4 +1,4 @@
--- `clock::update` meets its contract. The invariant: rate and phase after k turns. Assumes nothing.
+-- `clock::update` meets its contract: the invariant is rate and phase after k turns. Assumes nothing.
 use Prim.Native.Nat.{_≤_, _-_}
 use mathlib.Core.Path.{_≡_}
 use lib.Ieee.{binary32, ofBits, add, neg}

@@ -1,4 +1,4 @@
--- `equalizer::adapt` meets its contract. Assumes nothing.
+-- `equalizer::adapt` meets its contract: the invariant is the weights after k turns. Assumes nothing.
 use Prim.Native.Nat.{_≤_, _-_}
 use mathlib.Core.Path.{_≡_}
 use Rattle.laws.specs.Turns.{turns, turns-start, turns-step, turns-end}
@@ -59,7 +59,9 @@ loop-less : tie.Need-loop-less Inv-loop μ-loop
 loop-less c = search needs
 
 loop-again : tie.Need-loop-again Inv-loop μ-loop
-loop-again c = (search needs, turns-step _ _ _ _ (c .before .before .before .before .before .before .before .before .before .loop .inv .1))
+loop-again c =
+    let so-far = c .before .before .before .before .before .before .before .before .before .loop .inv in
+    (search needs, turns-step _ _ _ _ (so-far .1))
 
 returns : tie.Need-returns Inv-loop μ-loop
 unfolding adaptedOf

@@ -1,4 +1,4 @@
--- `equalizer::learns` meets its contract. Assumes nothing.
+-- `equalizer::learns` meets its contract: its four tests, put together, are the definition's. Assumes nothing.
 use borrow.Author.Needs.{needs}
 use Rattle.equalizer.proofs.learns.Statement.{statement}
 use Rattle.equalizer.proofs.learns.Tie as tie

@@ -1,4 +1,4 @@
--- `equalizer::limit` meets its contract. Assumes nothing.
+-- `equalizer::limit` meets its contract: the two ways, by whether the norm is above 16, are the definition's. Assumes nothing.
 use Rattle.equalizer.specs.Laws.{limited-found, limited-kept}
 use borrow.Author.Needs.{needs}
 use Rattle.equalizer.proofs.limit.Statement.{statement}
@@ -14,7 +14,10 @@ scale-requires : tie.Need-scale-requires
 scale-requires c κs = search needs
 
 returns : tie.Need-returns
-returns c = limited-found _ _ (c .before .before .before .before .before .norm .ensures) _ _ (c .before .before .before .before .if1 .taken) (c .before .sqrt32 .ensures) (c .scale .ensures)
+returns c =
+    let is-norm = c .before .before .before .before .before .norm .ensures in
+    let above = c .before .before .before .before .if1 .taken in
+    limited-found _ _ is-norm _ _ above (c .before .sqrt32 .ensures) (c .scale .ensures)
 
 returns-2 : tie.Need-returns-2
 returns-2 c = limited-kept _ _ (c .before .norm .ensures) (c .if1 .left)

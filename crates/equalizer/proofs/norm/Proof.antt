@@ -1,4 +1,4 @@
--- `equalizer::norm` meets its contract. Assumes nothing.
+-- `equalizer::norm` meets its contract: the invariant is the sum of the first k powers. Assumes nothing.
 use Prim.Native.Nat.{_≤_, _-_}
 use mathlib.Core.Path.{_≡_}
 use Rattle.laws.specs.Turns.{turns, turns-start, turns-step, turns-end}

@@ -1,4 +1,4 @@
--- `equalizer::scale` meets its contract. Assumes nothing.
+-- `equalizer::scale` meets its contract: the invariant is the weights after k turns. Assumes nothing.
 use Prim.Native.Nat.{_≤_, _-_}
 use mathlib.Core.Path.{_≡_}
 use Rattle.laws.specs.Turns.{turns, turns-start, turns-step, turns-end}

@@ -1,4 +1,4 @@
--- `equalizer::step_of` meets its contract. Assumes nothing.
+-- `equalizer::step_of` meets its contract: it is what `clamp32` answers, in the definition's formula. Assumes nothing.
 use borrow.Author.Needs.{needs}
 use Rattle.equalizer.proofs.step_of.Statement.{statement}
 use Rattle.equalizer.proofs.step_of.Tie as tie

@@ -1,8 +1,8 @@
--- `equalizer::tap_sums` meets its contract. Assumes nothing.
+-- `equalizer::tap_sums` meets its contract: the invariant is the sums over the first k taps. Assumes nothing.
 use Prim.Native.Nat.{_≤_, _-_}
 use mathlib.Core.Path.{_≡_, _∙_}
 use Rattle.laws.specs.Turns.{turns, turns-step, turns-none, turns-end}
-use Rattle.equalizer.specs.Equalizer.{rowOf, sumsTurn, noSums, sumsOf}
+use Rattle.equalizer.specs.Equalizer.{rowOf, sumsTurn, noSums, tapSumsOf}
 use borrow.Author.Needs.{needs}
 use Rattle.equalizer.proofs.tap_sums.Statement.{statement}
 use Rattle.equalizer.proofs.tap_sums.Tie as tie
@@ -68,10 +68,12 @@ loop-less : tie.Need-loop-less Inv-loop μ-loop
 loop-less c = search needs
 
 loop-again : tie.Need-loop-again Inv-loop μ-loop
-loop-again c = (search needs, c .tapped .ensures ∙ turns-step _ _ _ _ (c .before .before .before .before .before .before .before .before .loop .inv .1))
+loop-again c =
+    let so-far = c .before .before .before .before .before .before .before .before .loop .inv in
+    (search needs, c .tapped .ensures ∙ turns-step _ _ _ _ (so-far .1))
 
 returns : tie.Need-returns Inv-loop μ-loop
-unfolding sumsOf
+unfolding tapSumsOf
 returns c = turns-end _ _ _ _ _ (c .before .loop .inv .1) (search needs) (search needs)
 
 pub tap-sums-spec : {M : Type 1} → statement M

@@ -1,4 +1,4 @@
--- `equalizer::tapped` meets its contract. Assumes nothing.
+-- `equalizer::tapped` meets its contract: it is what the five calls answer, in the definition's record. Assumes nothing.
 use borrow.Author.Needs.{needs}
 use Rattle.equalizer.proofs.tapped.Statement.{statement}
 use Rattle.equalizer.proofs.tapped.Tie as tie
@@ -19,7 +19,10 @@ power-requires : tie.Need-power-requires
 power-requires c κs = search needs
 
 returns : tie.Need-returns
-returns c = rw (c .before .power .ensures, c .before .before .added2 .ensures, c .before .before .before .multiplied2 .ensures, c .before .before .before .before .added .ensures, c .before .before .before .before .before .multiplied .ensures)
+returns c =
+    let is-added = c .before .before .before .before .added .ensures in
+    let is-multiplied = c .before .before .before .before .before .multiplied .ensures in
+    rw (c .before .power .ensures, c .before .before .added2 .ensures, c .before .before .before .multiplied2 .ensures, is-added, is-multiplied)
 
 pub tapped-spec : {M : Type 1} → statement M
 tapped-spec =

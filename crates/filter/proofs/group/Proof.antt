@@ -1,4 +1,4 @@
--- `filter::group` meets its contract. Assumes nothing.
+-- `filter::group` meets its contract: the two ways, by whether it is the last group, are the definition's. Assumes nothing.
 use Rattle.filter.specs.Laws.{group-low, group-high}
 use borrow.Author.Needs.{needs}
 use Rattle.filter.proofs.group.Statement.{statement}

@@ -1,4 +1,4 @@
--- `filter::matched` meets its contract. Assumes nothing.
+-- `filter::matched` meets its contract: the windows of the samples laid out apart are those of the ring, with the arm's taps. Assumes nothing.
 use Rattle.filter.specs.Laws.{matched-is}
 use borrow.Author.Needs.{needs}
 use Rattle.filter.proofs.matched.Statement.{statement}
@@ -29,10 +29,19 @@ every-second-requires-4 : tie.Need-every-second-requires-4
 every-second-requires-4 c κs = search needs
 
 windows-requires : tie.Need-windows-requires
-windows-requires c κs = c .before .before .before .before .before .before .before .before .before .before .before .before .before .before .before .before .before .before .before .before .before .before .pre .1 .1
+windows-requires c κs =
+    let asked = c .before .before .before .before .before .before .before .before .before .before .before .before .before .before .before .before .before .before .before .before .before .before .pre in
+    asked .1 .1
 
 returns : tie.Need-returns
-returns c = matched-is _ _ _ _ _ _ _ _ _ _ _ _ _ (c .before .before .before .before .before .before .before .before .before .before .before .before .before .before .before .before .before .before .before .before .before .arm-taps .ensures) (c .before .before .before .before .before .before .before .before .before .before .before .before .before .before .before .before .before .before .before .arm-taps2 .ensures) (c .before .before .before .before .before .before .before .before .before .before .before .before .before .before .before .before .before .every-second .ensures) (c .before .before .before .before .before .before .before .before .before .before .before .before .before .before .before .every-second2 .ensures) (c .before .before .before .before .before .before .before .before .before .before .before .before .before .every-second3 .ensures) (c .before .before .before .before .before .before .before .before .before .before .before .every-second4 .ensures) (c .windows .ensures)
+returns c =
+    let is-taps = c .before .before .before .before .before .before .before .before .before .before .before .before .before .before .before .before .before .before .before .before .before .arm-taps .ensures in
+    let is-derivatives = c .before .before .before .before .before .before .before .before .before .before .before .before .before .before .before .before .before .before .before .arm-taps2 .ensures in
+    let is-even-real = c .before .before .before .before .before .before .before .before .before .before .before .before .before .before .before .before .before .every-second .ensures in
+    let is-odd-real = c .before .before .before .before .before .before .before .before .before .before .before .before .before .before .before .every-second2 .ensures in
+    let is-even-imaginary = c .before .before .before .before .before .before .before .before .before .before .before .before .before .every-second3 .ensures in
+    let is-odd-imaginary = c .before .before .before .before .before .before .before .before .before .before .before .every-second4 .ensures in
+    matched-is _ _ _ _ _ _ _ _ _ _ _ _ _ is-taps is-derivatives is-even-real is-odd-real is-even-imaginary is-odd-imaginary (c .windows .ensures)
 
 pub matched-spec : {M : Type 1} → statement M
 matched-spec =

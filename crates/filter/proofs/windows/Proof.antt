@@ -1,4 +1,4 @@
--- `filter::windows` meets its contract. The invariant: the planes hold the windows that are made before group g. Assumes nothing.
+-- `filter::windows` meets its contract: the invariant is that the planes hold the windows that are made before group g. Assumes nothing.
 use Prim.Native.Nat.{_≤_, _-_}
 use Rattle.filter.specs.Fast.{woven}
 use Rattle.filter.specs.Laws.{Made, made-start, made-group, made-end}
@@ -7,7 +7,8 @@ use Rattle.filter.proofs.windows.Statement.{statement}
 use Rattle.filter.proofs.windows.Tie as tie
 
 abbrev Inv-loop : tie.InvT-loop
-Inv-loop even-real odd-real even-imaginary odd-imaginary taps derivative-taps value-real₀ value-imaginary₀ derivative-real₀ derivative-imaginary₀ g₀ value-real value-imaginary derivative-real derivative-imaginary g = (g ≤ 6) × Made (woven even-real odd-real) (woven even-imaginary odd-imaginary) taps derivative-taps g value-real value-imaginary derivative-real derivative-imaginary
+Inv-loop even-real odd-real even-imaginary odd-imaginary taps derivative-taps value-real₀ value-imaginary₀ derivative-real₀ derivative-imaginary₀ g₀ value-real value-imaginary derivative-real derivative-imaginary g =
+    (g ≤ 6) × Made (woven even-real odd-real) (woven even-imaginary odd-imaginary) taps derivative-taps g value-real value-imaginary derivative-real derivative-imaginary
 
 abbrev μ-loop : tie.MeasureT-loop
 μ-loop even-real odd-real even-imaginary odd-imaginary taps derivative-taps value-real₀ value-imaginary₀ derivative-real₀ derivative-imaginary₀ g₀ value-real value-imaginary derivative-real derivative-imaginary g = 6 - g
@@ -40,7 +41,16 @@ loop-less : tie.Need-loop-less Inv-loop μ-loop
 loop-less c = search needs
 
 loop-again : tie.Need-loop-again Inv-loop μ-loop
-loop-again c = (search needs, made-group _ _ _ _ _ _ _ _ _ _ _ _ _ _ _ (c .before .before .before .before .before .before .before .before .before .before .before .before .before .before .before .loop .inv .1) (search needs) (c .before .before .before .before .before .before .before .before .before .before .before .before .before .group .ensures .0) (search needs) (c .before .before .before .before .before .before .before .before .before .before .before .before .four-sums .ensures) (c .before .before .before .before .before .before .put .ensures) (c .before .before .before .before .put2 .ensures) (c .before .before .put3 .ensures) (c .put4 .ensures))
+loop-again c =
+    let so-far = c .before .before .before .before .before .before .before .before .before .before .before .before .before .before .before .loop .inv in
+    let is-group = c .before .before .before .before .before .before .before .before .before .before .before .before .before .group .ensures in
+    let is-sums = c .before .before .before .before .before .before .before .before .before .before .before .before .four-sums .ensures in
+    let is-real = c .before .before .before .before .before .before .put .ensures in
+    let is-imaginary = c .before .before .before .before .put2 .ensures in (
+      search needs,
+      made-group _ _ _ _ _ _ _ _ _ _ _ _ _ _ _ (so-far .1) (search needs) (is-group .0) (search needs)
+          is-sums is-real is-imaginary (c .before .before .put3 .ensures) (c .put4 .ensures),
+    )
 
 returns : tie.Need-returns Inv-loop μ-loop
 returns c = made-end _ _ _ _ _ _ _ _ _ (c .before .loop .inv .1) (search needs) (search needs)

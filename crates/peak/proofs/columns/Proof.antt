@@ -1,4 +1,4 @@
--- `peak::columns` meets its contract. Assumes nothing.
+-- `peak::columns` meets its contract: the invariant is the first k columns filled. Assumes nothing.
 use mathlib.Core.Path.{_≡_, ap}
 use Prim.Native.Nat.{_-_, _≤_}
 use lib.ListN.{length, set, length-set}

@@ -1,4 +1,4 @@
--- `peak::envelope` meets its contract. Assumes nothing.
+-- `peak::envelope` meets its contract: it is what the four calls answer, in the definition's formula. Assumes nothing.
 use Rattle.peak.specs.Peak.{envelopeOf}
 use borrow.Author.Needs.{needs}
 use Rattle.peak.proofs.envelope.Statement.{statement}

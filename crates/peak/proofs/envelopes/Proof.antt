@@ -1,4 +1,4 @@
--- `peak::envelopes` meets its contract. Assumes nothing.
+-- `peak::envelopes` meets its contract: the invariant is the first k envelopes filled. Assumes nothing.
 use mathlib.Core.Path.{_≡_, ap}
 use Prim.Native.Nat.{_-_, _≤_}
 use lib.ListN.{length, getD, set, length-set}
@@ -46,7 +46,10 @@ loop-less : tie.Need-loop-less Inv-loop μ-loop
 loop-less c = search needs
 
 loop-again : tie.Need-loop-again Inv-loop μ-loop
-loop-again c = (search needs, simp length-set (c .before .before .before .before .loop .inv .1), fill-step _ _ _ _ _ (ap (λ (x : Float). set (c .before .before .before .before .loop .out) (c .before .before .before .before .loop .k) x) (c .envelope .ensures)) (c .before .before .before .before .loop .inv .2))
+loop-again c =
+    let so-far = c .before .before .before .before .loop .inv in
+    let turn = c .before .before .before .before .loop in
+    (search needs, simp length-set (so-far .1), fill-step _ _ _ _ _ (ap (λ (x : Float). set (turn .out) (turn .k) x) (c .envelope .ensures)) (so-far .2))
 
 returns : tie.Need-returns Inv-loop μ-loop
 unfolding envelopesOf

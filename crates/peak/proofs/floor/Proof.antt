@@ -1,4 +1,4 @@
--- `peak::floor` meets its contract. Assumes nothing.
+-- `peak::floor` meets its contract: it is one product. Assumes nothing.
 use mathlib.Core.Path.{refl}
 use Rattle.peak.specs.Peak.{floorOf}
 use Rattle.peak.proofs.floor.Statement.{statement}

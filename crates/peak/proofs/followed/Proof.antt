@@ -1,5 +1,5 @@
--- `peak::followed` meets its contract. Assumes nothing.
-use Rattle.peak.specs.Peak.{referenceOf}
+-- `peak::followed` meets its contract: it is what `max32` answers. Assumes nothing.
+use Rattle.peak.specs.Peak.{followedOf}
 use borrow.Author.Needs.{needs}
 use Rattle.peak.proofs.followed.Statement.{statement}
 use Rattle.peak.proofs.followed.Tie as tie
@@ -8,7 +8,7 @@ max32-requires : tie.Need-max32-requires
 max32-requires c κs = search needs
 
 returns : tie.Need-returns
-unfolding referenceOf
+unfolding followedOf
 returns c = cc
 
 pub followed-spec : {M : Type 1} → statement M

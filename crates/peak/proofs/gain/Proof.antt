@@ -1,4 +1,4 @@
--- `peak::gain` meets its contract. Assumes nothing.
+-- `peak::gain` meets its contract: it is what the two calls of `max32` answer, in the definition's formula. Assumes nothing.
 use Rattle.peak.specs.Peak.{gainOf}
 use borrow.Author.Needs.{needs}
 use Rattle.peak.proofs.gain.Statement.{statement}

@@ -1,5 +1,5 @@
--- `peak::highest` meets its contract. Assumes nothing.
-use Rattle.peak.specs.Columns.{highest-of}
+-- `peak::highest` meets its contract: the peak of the quarters of the columns is the peak by columns. Assumes nothing.
+use Rattle.peak.specs.ColumnLaws.{highest-of}
 use borrow.Author.Needs.{needs}
 use Rattle.peak.proofs.highest.Statement.{statement}
 use Rattle.peak.proofs.highest.Tie as tie
@@ -13,8 +13,8 @@ quarter-requires c κs = search needs
 quarter-requires-2 : tie.Need-quarter-requires-2
 quarter-requires-2 c κs = search needs
 
-over-requires : tie.Need-over-requires
-over-requires c κs = search needs
+top-requires : tie.Need-top-requires
+top-requires c κs = search needs
 
 quarter-requires-3 : tie.Need-quarter-requires-3
 quarter-requires-3 c κs = search needs
@@ -22,14 +22,20 @@ quarter-requires-3 c κs = search needs
 quarter-requires-4 : tie.Need-quarter-requires-4
 quarter-requires-4 c κs = search needs
 
-over-requires-2 : tie.Need-over-requires-2
-over-requires-2 c κs = search needs
+top-requires-2 : tie.Need-top-requires-2
+top-requires-2 c κs = search needs
 
-over-requires-3 : tie.Need-over-requires-3
-over-requires-3 c κs = search needs
+top-requires-3 : tie.Need-top-requires-3
+top-requires-3 c κs = search needs
 
 returns : tie.Need-returns
-returns c = highest-of _ _ _ _ _ _ _ _ _ (c .before .before .before .before .before .before .before .before .before .before .before .columns .ensures) (c .before .before .before .before .before .before .before .before .before .quarter .ensures) (c .before .before .before .before .before .before .before .quarter2 .ensures) (c .before .before .before .before .quarter3 .ensures) (c .before .before .quarter4 .ensures) (c .before .before .before .before .before .before .over .ensures) (c .before .over2 .ensures) (c .over3 .ensures)
+returns c =
+    let is-columns = c .before .before .before .before .before .before .before .before .before .before .before .columns .ensures in
+    let is-quarter = c .before .before .before .before .before .before .before .before .before .quarter .ensures in
+    let is-quarter2 = c .before .before .before .before .before .before .before .quarter2 .ensures in
+    let is-quarter3 = c .before .before .before .before .quarter3 .ensures in
+    let is-low = c .before .before .before .before .before .before .top .ensures in
+    highest-of _ _ _ _ _ _ _ _ _ is-columns is-quarter is-quarter2 is-quarter3 (c .before .before .quarter4 .ensures) is-low (c .before .top2 .ensures) (c .top3 .ensures)
 
 pub highest-spec : {M : Type 1} → statement M
 highest-spec =
@@ -38,9 +44,9 @@ highest-spec =
     columns-requires
     quarter-requires
     quarter-requires-2
-    over-requires
+    top-requires
     quarter-requires-3
     quarter-requires-4
-    over-requires-2
-    over-requires-3
+    top-requires-2
+    top-requires-3
     returns)

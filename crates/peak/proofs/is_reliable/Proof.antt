@@ -1,4 +1,4 @@
--- `peak::is_reliable` meets its contract. Assumes nothing.
+-- `peak::is_reliable` meets its contract: its two tests are the definition's. Assumes nothing.
 use mathlib.Core.Path.{refl}
 use Rattle.peak.specs.Peak.{reliableOf}
 use Rattle.peak.proofs.is_reliable.Statement.{statement}

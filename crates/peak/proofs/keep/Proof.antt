@@ -1,4 +1,4 @@
--- `peak::keep` meets its contract. Assumes nothing.
+-- `peak::keep` meets its contract: the two ways, by whether 64 values are in, are the definition's; either way the new value renews its own envelope and no other. Assumes nothing.
 use mathlib.Core.Path.{refl, ap, _∙_}
 use Rattle.peak.specs.Columns.{highestOf}
 use Rattle.peak.specs.Laws.{keep-filling, keep-level, renews, highest-is}
@@ -34,7 +34,9 @@ add-t19 : tie.Need-add-t19
 add-t19 c = search needs
 
 returns : tie.Need-returns
-returns c = (keep-filling _ _ _ _ _ (c .before .if1 .taken) refl, renews _ _ _ _ _ _ _ (c .before .before .before .before .pre .1 .1 .1) (c .before .before .before .envelope .ensures) (c .before .before .before .before .pre .0) (c .before .before .before .before .pre .1 .0) (c .before .before .before .before .pre .1 .1 .0))
+returns c =
+    let asked = c .before .before .before .before .pre in
+    (keep-filling _ _ _ _ _ (c .before .if1 .taken) refl, renews _ _ _ _ _ _ _ (asked .1 .1 .1) (c .before .before .before .envelope .ensures) (asked .0) (asked .1 .0) (asked .1 .1 .0))
 
 mul-levelled : tie.Need-mul-levelled
 mul-levelled c = search needs
@@ -56,8 +58,11 @@ levelled-requires c κs = search needs
 
 returns-2 : tie.Need-returns-2
 returns-2 c =
-    let sizes = renews _ _ _ _ _ _ _ (c .before .before .before .before .before .before .before .before .pre .1 .1 .1) (c .before .before .before .before .before .before .before .envelope .ensures) (c .before .before .before .before .before .before .before .before .pre .0) (c .before .before .before .before .before .before .before .before .pre .1 .0) (c .before .before .before .before .before .before .before .before .pre .1 .1 .0) in
-    (keep-level _ _ _ _ _ _ (c .before .before .before .before .before .if1 .left) (c .before .highest .ensures ∙ ap highestOf sizes ∙ highest-is _ _) (c .levelled .ensures), sizes)
+    let asked = c .before .before .before .before .before .before .before .before .pre in
+    let is-envelope = c .before .before .before .before .before .before .before .envelope .ensures in
+    let full = c .before .before .before .before .before .if1 .left in
+    let sizes = renews _ _ _ _ _ _ _ (asked .1 .1 .1) is-envelope (asked .0) (asked .1 .0) (asked .1 .1 .0) in
+    (keep-level _ _ _ _ _ _ full (c .before .highest .ensures ∙ ap highestOf sizes ∙ highest-is _ _) (c .levelled .ensures), sizes)
 
 pub keep-spec : {M : Type 1} → statement M
 keep-spec =

@@ -1,4 +1,4 @@
--- `peak::levelled` meets its contract. Assumes nothing.
+-- `peak::levelled` meets its contract: it is what the five calls answer, in the definition's record. Assumes nothing.
 use Rattle.peak.specs.Laws.{levelled-is}
 use borrow.Author.Needs.{needs}
 use Rattle.peak.proofs.levelled.Statement.{statement}
@@ -20,7 +20,9 @@ is-reliable-requires : tie.Need-is-reliable-requires
 is-reliable-requires c κs = search needs
 
 returns : tie.Need-returns
-returns c = levelled-is _ _ _ _ _ _ _ _ _ (c .before .before .before .before .followed .ensures) (c .before .before .before .floor .ensures) (c .before .before .gain .ensures) (c .before .scaled .ensures) (c .is-reliable .ensures)
+returns c =
+    let is-followed = c .before .before .before .before .followed .ensures in
+    levelled-is _ _ _ _ _ _ _ _ _ is-followed (c .before .before .before .floor .ensures) (c .before .before .gain .ensures) (c .before .scaled .ensures) (c .is-reliable .ensures)
 
 pub levelled-spec : {M : Type 1} → statement M
 levelled-spec =

@@ -1,4 +1,4 @@
--- `recovery::recover` meets its contract. Assumes nothing.
+-- `recovery::recover` meets its contract: it is the row with the tables that `both_tables` gives; the sizes are the keeper's envelopes. Assumes nothing.
 use native.Mathlib.Omega.{arith}
 use Rattle.recovery.specs.Laws.{recovered-is}
 use borrow.Author.Needs.{needs}
@@ -12,10 +12,15 @@ envelopes-requires : tie.Need-envelopes-requires
 envelopes-requires c κs = search needs
 
 row-requires : tie.Need-row-requires
-row-requires c κs = (c .before .before .before .before .before .before .before .before .before .before .before .before .before .before .before .before .before .before .pre, (omega (arith, c .before .before .before .before .before .before .before .before .before .before .before .before .before .before .before .before .before .before .pre .symbols .room), c .before .before .before .before .before .before .before .before .before .before .before .before .before .envelopes .ensures))
+row-requires c κs =
+    let asked = c .before .before .before .before .before .before .before .before .before .before .before .before .before .before .before .before .before .before .pre in
+    let is-envelopes = c .before .before .before .before .before .before .before .before .before .before .before .before .before .envelopes .ensures in
+    (asked, (omega (arith, asked .symbols .room), is-envelopes))
 
 returns : tie.Need-returns
-returns c = (recovered-is _ _ _ _ _ _ (c .before .before .before .before .before .before .before .before .before .before .before .before .before .before .before .before .before .before .both-tables .ensures .0) (c .row .ensures .0), c .row .ensures .1)
+returns c =
+    let is-tables = c .before .before .before .before .before .before .before .before .before .before .before .before .before .before .before .before .before .before .both-tables .ensures in
+    (recovered-is _ _ _ _ _ _ (is-tables .0) (c .row .ensures .0), c .row .ensures .1)
 
 pub recover-spec : {M : Type 1} → statement M
 recover-spec = tie.close (tie.spec both-tables-requires envelopes-requires row-requires returns)

@@ -6,8 +6,8 @@ use borrow.Author.Needs.{needs}
 use Rattle.replay_clock.proofs.stepped.Statement.{statement}
 use Rattle.replay_clock.proofs.stepped.Tie as tie
 
-admitted-requires : tie.Need-admitted-requires
-admitted-requires c κs = search needs
+is-admitted-requires : tie.Need-is-admitted-requires
+is-admitted-requires c κs = search needs
 
 slice-aggregate-write-all : tie.Need-slice-aggregate-write-all
 slice-aggregate-write-all c = search needs
@@ -19,7 +19,10 @@ returns : tie.Need-returns
 returns c = search needs
 
 step-requires : tie.Need-step-requires
-step-requires c κs = (admitted-facts _ (sym (c .before .before .before .before .before .before .before .admitted .ensures) ∙ not-false _ (c .before .before .before .before .before .before .if1 .left)), (search needs, (search needs, (search needs, search needs))))
+step-requires c κs =
+    let is-tested = c .before .before .before .before .before .before .before .is-admitted .ensures in
+    let passed = c .before .before .before .before .before .before .if1 .left in
+    (admitted-facts _ (sym is-tested ∙ not-false _ passed), (search needs, (search needs, (search needs, search needs))))
 
 came-requires : tie.Need-came-requires
 came-requires c κs = search needs
@@ -52,7 +55,7 @@ pub stepped-spec : {M : Type 1} → statement M
 stepped-spec =
     tie.close
     (tie.spec
-    admitted-requires
+    is-admitted-requires
     slice-aggregate-write-all
     write-all-requires
     returns

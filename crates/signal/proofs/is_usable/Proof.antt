@@ -1,4 +1,4 @@
--- `signal::is_usable` meets its contract. Assumes nothing.
+-- `signal::is_usable` meets its contract: its three tests, put together, are the definition's. Assumes nothing.
 use borrow.Author.Needs.{needs}
 use Rattle.signal.proofs.is_usable.Statement.{statement}
 use Rattle.signal.proofs.is_usable.Tie as tie

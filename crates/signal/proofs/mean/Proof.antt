@@ -1,4 +1,4 @@
--- `signal::mean` meets its contract. Assumes nothing.
+-- `signal::mean` meets its contract: a count of at most 1,024 is an f64 without rounding. Assumes nothing.
 use Prim.Native.Nat.{_^_}
 use lib.Ieee.{inFloat}
 use borrow.Author.Tests.{le-leb}

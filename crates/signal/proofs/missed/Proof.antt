@@ -1,4 +1,4 @@
--- `signal::missed` meets its contract. Assumes nothing.
+-- `signal::missed` meets its contract: the distance is that of the size, which `abs` gives. Assumes nothing.
 use borrow.Author.Needs.{needs}
 use Rattle.signal.proofs.missed.Statement.{statement}
 use Rattle.signal.proofs.missed.Tie as tie

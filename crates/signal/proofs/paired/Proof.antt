@@ -1,4 +1,4 @@
--- `signal::paired` meets its contract. Assumes nothing.
+-- `signal::paired` meets its contract: it is zero where one of the two is absent, and else what `rotated` gives. Assumes nothing.
 use borrow.Author.Needs.{needs}
 use Rattle.signal.proofs.paired.Statement.{statement}
 use Rattle.signal.proofs.paired.Tie as tie

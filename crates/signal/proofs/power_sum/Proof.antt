@@ -1,4 +1,4 @@
--- `signal::power_sum` meets its contract. Assumes nothing.
+-- `signal::power_sum` meets its contract: the points up to the ring's end and those from its beginning are the points round the ring. Assumes nothing.
 use Rattle.signal.specs.Windows.{power-runs}
 use borrow.Author.Needs.{needs}
 use Rattle.signal.proofs.power_sum.Statement.{statement}

@@ -1,4 +1,4 @@
--- `signal::push` meets its contract. Assumes nothing.
+-- `signal::push` meets its contract: point, place and both planes are the fields of `pushedOf`. Assumes nothing.
 use Rattle.signal.specs.Signal.{pushedOf}
 use borrow.Author.Needs.{needs}
 use Rattle.signal.proofs.push.Statement.{statement}

@@ -1,4 +1,4 @@
--- `signal::read` meets its contract. Assumes nothing.
+-- `signal::read` meets its contract: the two ways out, by whether the points can be shown, are the definition's; a NaN for a sum, taken for infinity, shows as little. Assumes nothing.
 use mathlib.Core.Path.{sym, _∙_}
 use Rattle.signal.specs.Loops.{read-found, read-nothing}
 use borrow.Author.Needs.{needs}
@@ -30,7 +30,10 @@ sqrt-requires : tie.Need-sqrt-requires
 sqrt-requires c κs = search needs
 
 write-requires : tie.Need-write-requires
-write-requires c κs = (search needs, (search needs, (search needs, λ h. c .before .before .before .before .before .before .power-sum .ensures .plain (sym (c .before .before .before .before .before .are-plain .ensures) ∙ h))))
+write-requires c κs =
+    let is-power-sum = c .before .before .before .before .before .before .power-sum .ensures in
+    let is-plain = c .before .before .before .before .before .are-plain .ensures in
+    (search needs, (search needs, (search needs, λ h. is-power-sum .plain (sym is-plain ∙ h))))
 
 mean-requires-2 : tie.Need-mean-requires-2
 mean-requires-2 c κs = search needs
@@ -42,11 +45,22 @@ same-length : tie.Need-same-length
 same-length c = search needs
 
 returns : tie.Need-returns
-returns c = read-found _ _ _ _ _ _ (c .before .before .before .before .before .before .before .before .before .before .before .before .before .least .ensures) (c .before .before .before .before .before .before .before .before .before .before .before .power-sum .ensures .sum) (c .before .before .before .before .before .before .before .before .before .mean .ensures) (c .before .before .before .before .before .before .before .before .is-usable .ensures)
-    _ _ _ _ _ (c .before .before .before .before .before .before .before .if1 .taken) (c .before .before .before .before .before .before .sqrt .ensures) (c .before .before .before .before .write .ensures) (c .before .mean2 .ensures) (c .sqrt2 .ensures)
+returns c =
+    let is-least = c .before .before .before .before .before .before .before .before .before .before .before .before .before .least .ensures in
+    let is-power-sum = c .before .before .before .before .before .before .before .before .before .before .before .power-sum .ensures in
+    let is-mean = c .before .before .before .before .before .before .before .before .before .mean .ensures in
+    let is-usable = c .before .before .before .before .before .before .before .before .is-usable .ensures in
+    let usable = c .before .before .before .before .before .before .before .if1 .taken in
+    let is-sqrt = c .before .before .before .before .before .before .sqrt .ensures in
+    let is-written = c .before .before .before .before .write .ensures in
+    read-found _ _ _ _ _ _ is-least (is-power-sum .sum) is-mean is-usable
+    _ _ _ _ _ usable is-sqrt is-written (c .before .mean2 .ensures) (c .sqrt2 .ensures)
 
 returns-2 : tie.Need-returns-2
-returns-2 c = read-nothing _ _ _ _ _ _ (c .before .before .before .before .before .before .least .ensures) (c .before .before .before .before .power-sum .ensures .sum) (c .before .before .mean .ensures) (c .before .is-usable .ensures) (c .if1 .left)
+returns-2 c =
+    let is-least = c .before .before .before .before .before .before .least .ensures in
+    let is-power-sum = c .before .before .before .before .power-sum .ensures in
+    read-nothing _ _ _ _ _ _ is-least (is-power-sum .sum) (c .before .before .mean .ensures) (c .before .is-usable .ensures) (c .if1 .left)
 
 pub read-spec : {M : Type 1} → statement M
 read-spec =

@@ -1,4 +1,4 @@
--- `signal::rotated` meets its contract. Assumes nothing.
+-- `signal::rotated` meets its contract: the product is what `multiplied_conjugate` gives, turned by pi / 4. Assumes nothing.
 use borrow.Author.Needs.{needs}
 use Rattle.signal.proofs.rotated.Statement.{statement}
 use Rattle.signal.proofs.rotated.Tie as tie

@@ -1,4 +1,4 @@
--- `signal::write` meets its contract. Assumes nothing.
+-- `signal::write` meets its contract: either way gives the same; the quick one is taken where parts and amplitude are plain. Assumes nothing.
 use mathlib.Core.Path.{sym, _∙_}
 use Rattle.signal.specs.Windows.{common-plain, plain-amplitude}
 use borrow.Author.Needs.{needs}

@@ -1,4 +1,4 @@
--- `signal::write_points` meets its contract. Assumes nothing.
+-- `signal::write_points` meets its contract: the invariants are the sum and the floats after i points. Assumes nothing.
 use Prim.Native.Nat.{_≤_, _-_}
 use mathlib.Core.Path.{_≡_, refl}
 use native.Mathlib.Omega.{arith}
@@ -84,12 +84,15 @@ loop-less : tie.Need-loop-less Inv-loop μ-loop
 loop-less c = search needs
 
 loop-again : tie.Need-loop-again Inv-loop μ-loop
-loop-again c = (
-  search needs,
-  search needs,
-  rw (c .before .before .missed2 .ensures, c .before .before .before .missed .ensures, c .before .before .before .before .widen2 .ensures, c .before .before .before .before .before .before .widen .ensures) (turns-step _ _ _ _ (c .before .before .before .before .before .before .before .before .before .loop .inv .2)),
-  rw (c .narrow2 .ensures, c .before .narrow .ensures, c .before .before .before .before .widen2 .ensures, c .before .before .before .before .before .before .widen .ensures) (turns-step _ _ _ _ (c .before .before .before .before .before .before .before .before .before .loop .inv .3)),
-)
+loop-again c =
+    let is-widen2 = c .before .before .before .before .widen2 .ensures in
+    let is-widen = c .before .before .before .before .before .before .widen .ensures in
+    let so-far = c .before .before .before .before .before .before .before .before .before .loop .inv in (
+      search needs,
+      search needs,
+      rw (c .before .before .missed2 .ensures, c .before .before .before .missed .ensures, is-widen2, is-widen) (turns-step _ _ _ _ (so-far .2)),
+      rw (c .narrow2 .ensures, c .before .narrow .ensures, is-widen2, is-widen) (turns-step _ _ _ _ (so-far .3)),
+    )
 
 same-length : tie.Need-same-length Inv-loop μ-loop
 same-length c = search needs

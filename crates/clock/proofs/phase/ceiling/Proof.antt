@@ -1,4 +1,4 @@
--- `clock::phase::ceiling` meets its contract. Assumes nothing.
+-- `clock::phase::ceiling` meets its contract: it is the truncated number, or one more where that lies below x. Assumes nothing.
 use native.Mathlib.Omega.{arith}
 use Rattle.clock.specs.Floor.{whole-most, ceiling-up, ceiling-not}
 use Rattle.clock.specs.Ranged.{truncates, within48}

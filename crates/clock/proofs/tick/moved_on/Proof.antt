@@ -1,4 +1,4 @@
--- `clock::tick::moved_on` meets its contract. Assumes nothing.
+-- `clock::tick::moved_on` meets its contract: dropping at once what lies before position 12 is the definition's loop. Assumes nothing.
 use Rattle.clock.specs.Laws.{dropped-is}
 use borrow.Author.Needs.{needs}
 use Rattle.clock.proofs.tick.moved_on.Statement.{statement}

@@ -1,7 +1,7 @@
--- `clock::tick::ticked` meets its contract. Assumes nothing.
+-- `clock::tick::ticked` meets its contract: the ring has room, since its count is below 256; the sample goes to its end. Assumes nothing.
 use mathlib.Core.Path.{refl}
 use native.Mathlib.Omega.{arith}
-use Rattle.clock.specs.Laws.{assertion-holds, taken-hot, taken-first, pushed-is, after-of}
+use Rattle.clock.specs.Laws.{assertion-holds, taken-hot, taken-first, ticked-is, after-of}
 use borrow.Author.Needs.{needs}
 use Rattle.clock.proofs.tick.ticked.Statement.{statement}
 use Rattle.clock.proofs.tick.ticked.Tie as tie
@@ -24,11 +24,11 @@ element-write-imaginary c = search needs
 add-t7 : tie.Need-add-t7
 add-t7 c = let h = assertion-holds _ (c .before .before .pre) in omega arith
 
-answered-requires : tie.Need-answered-requires
-answered-requires c κs = ((λ w. taken-hot _ (c .before .before .pre) w), (λ w. taken-first _ (c .before .before .pre) w))
+timed-requires : tie.Need-timed-requires
+timed-requires c κs = ((λ w. taken-hot _ (c .before .before .pre) w), (λ w. taken-first _ (c .before .before .pre) w))
 
 returns : tie.Need-returns
-returns c = (pushed-is _ _ _ _ _ _ refl (c .answered .ensures), after-of _ _ (c .before .before .before .pre) (c .answered .ensures))
+returns c = (ticked-is _ _ _ _ _ _ refl (c .timed .ensures), after-of _ _ (c .before .before .before .pre) (c .timed .ensures))
 
 pub ticked-spec : {M : Type 1} → statement M
 ticked-spec =
@@ -40,5 +40,5 @@ ticked-spec =
     mul-imaginary
     element-write-imaginary
     add-t7
-    answered-requires
+    timed-requires
     returns)

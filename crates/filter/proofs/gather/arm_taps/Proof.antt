@@ -1,10 +1,10 @@
--- `filter::gather::arm_taps` meets its contract. The invariant: the first i places are filled. Assumes nothing.
+-- `filter::gather::arm_taps` meets its contract: the invariant is the first i taps filled. Assumes nothing.
 use Prim.Native.Nat.{_≤_, _-_}
 use mathlib.Core.Path.{_≡_}
 use lib.ListN.{length}
 use lib.Ieee.{nan}
 use Rattle.laws.specs.Places.{fill, fill-end}
-use Rattle.filter.specs.Filter.{armTap, armOf}
+use Rattle.filter.specs.Filter.{armTap, armTapsOf}
 use Rattle.filter.specs.Laws.{arm-start, arm-next}
 use borrow.Author.Needs.{needs}
 use Rattle.filter.proofs.gather.arm_taps.Statement.{statement}
@@ -56,7 +56,7 @@ loop-again : tie.Need-loop-again Inv-loop μ-loop
 loop-again c = (search needs, search needs, search needs, search needs, arm-next _ _ _ _ _ (search needs) (search needs) (c .before .before .loop .inv .4))
 
 returns : tie.Need-returns Inv-loop μ-loop
-unfolding armOf
+unfolding armTapsOf
 returns c = fill-end _ _ _ _ _ nan (c .before .loop .inv .4) (search needs) (search needs) (search needs)
 
 pub arm-taps-spec : {M : Type 1} → statement M

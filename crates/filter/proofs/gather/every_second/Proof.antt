@@ -1,11 +1,11 @@
--- `filter::gather::every_second` meets its contract. The invariant: the first j places are filled. Assumes nothing.
+-- `filter::gather::every_second` meets its contract: the invariant is the first j samples filled. Assumes nothing.
 use Prim.Native.Nat.{_≤_, _-_}
 use mathlib.Core.Path.{_≡_}
 use mathlib.Core.Path.{refl}
 use lib.ListN.{length}
 use lib.Ieee.{nan}
 use Rattle.laws.specs.Places.{fill, fill-start, fill-step, fill-end}
-use Rattle.filter.specs.Fast.{secondAt, secondsOf}
+use Rattle.filter.specs.Fast.{secondAt, everySecondOf}
 use borrow.Author.Needs.{needs}
 use Rattle.filter.proofs.gather.every_second.Statement.{statement}
 use Rattle.filter.proofs.gather.every_second.Tie as tie
@@ -47,7 +47,7 @@ loop-again : tie.Need-loop-again Inv-loop μ-loop
 loop-again c = (search needs, search needs, search needs, fill-step _ _ _ _ _ refl (c .before .before .loop .inv .3))
 
 returns : tie.Need-returns Inv-loop μ-loop
-unfolding secondsOf
+unfolding everySecondOf
 returns c = fill-end _ _ _ _ _ nan (c .before .loop .inv .3) (search needs) (search needs) (search needs)
 
 pub every-second-spec : {M : Type 1} → statement M

@@ -1,4 +1,4 @@
--- `filter::gather::first_tap` meets its contract. Assumes nothing.
+-- `filter::gather::first_tap` meets its contract: only arm 0 reaches the table's last place. Assumes nothing.
 use Rattle.filter.specs.Laws.{tap-first, tap-past}
 use borrow.Author.Needs.{needs}
 use Rattle.filter.proofs.gather.first_tap.Statement.{statement}

@@ -1,4 +1,4 @@
--- `filter::sums::four_sums` meets its contract. The invariant: the sums over the first 2 j taps. Assumes nothing.
+-- `filter::sums::four_sums` meets its contract: the invariant is the sums over the first 2 j taps. Assumes nothing.
 use Prim.Native.Nat.{_≤_, _-_, _*_}
 use mathlib.Core.Path.{_≡_, _∙_}
 use Rattle.filter.specs.Laws.{fourTo, four-start, four-even, four-odd, four-last}
@@ -79,7 +79,9 @@ loop-less : tie.Need-loop-less Inv-loop μ-loop
 loop-less c = search needs
 
 loop-again : tie.Need-loop-again Inv-loop μ-loop
-loop-again c = (search needs, c .tapped-four2 .ensures ∙ four-odd _ _ _ _ _ _ _ _ _ (c .before .before .before .tapped-four .ensures ∙ four-even _ _ _ _ _ _ _ _ _ (c .before .before .before .before .before .before .before .loop .inv .1)))
+loop-again c =
+    let so-far = c .before .before .before .before .before .before .before .loop .inv in
+    (search needs, c .tapped-four2 .ensures ∙ four-odd _ _ _ _ _ _ _ _ _ (c .before .before .before .tapped-four .ensures ∙ four-even _ _ _ _ _ _ _ _ _ (so-far .1)))
 
 add-tapped-four-5 : tie.Need-add-tapped-four-5 Inv-loop μ-loop
 add-tapped-four-5 c = search needs
@@ -94,7 +96,9 @@ tapped-four-requires-3 : tie.Need-tapped-four-requires-3 Inv-loop μ-loop
 tapped-four-requires-3 c κs = search needs
 
 returns : tie.Need-returns Inv-loop μ-loop
-returns c = c .tapped-four3 .ensures ∙ four-last _ _ _ _ _ _ _ _ _ (c .before .before .before .before .loop .inv .1) (search needs) (search needs)
+returns c =
+    let so-far = c .before .before .before .before .loop .inv in
+    c .tapped-four3 .ensures ∙ four-last _ _ _ _ _ _ _ _ _ (so-far .1) (search needs) (search needs)
 
 pub four-sums-spec : {M : Type 1} → statement M
 four-sums-spec =

@@ -1,4 +1,4 @@
--- `filter::sums::no_sums` meets its contract. Assumes nothing.
+-- `filter::sums::no_sums` meets its contract: each of the eight sums is zero. Assumes nothing.
 use borrow.Author.Needs.{needs}
 use Rattle.filter.proofs.sums.no_sums.Statement.{statement}
 use Rattle.filter.proofs.sums.no_sums.Tie as tie

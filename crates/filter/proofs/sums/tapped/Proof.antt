@@ -1,4 +1,4 @@
--- `filter::sums::tapped` meets its contract. Assumes nothing.
+-- `filter::sums::tapped` meets its contract: it is what the two calls answer, in the definition's record. Assumes nothing.
 use borrow.Author.Needs.{needs}
 use Rattle.filter.proofs.sums.tapped.Statement.{statement}
 use Rattle.filter.proofs.sums.tapped.Tie as tie

@@ -1,4 +1,4 @@
--- `filter::sums::tapped_four` meets its contract. Assumes nothing.
+-- `filter::sums::tapped_four` meets its contract: it is what the four calls answer, in the definition's record. Assumes nothing.
 use Rattle.filter.specs.Laws.{four-of}
 use borrow.Author.Needs.{needs}
 use Rattle.filter.proofs.sums.tapped_four.Statement.{statement}
@@ -83,7 +83,10 @@ tapped-requires-4 : tie.Need-tapped-requires-4
 tapped-requires-4 c κs = search needs
 
 returns : tie.Need-returns
-returns c = four-of _ _ _ _ _ _ _ _ (c .before .before .before .before .before .before .before .before .before .tapped .ensures) (c .before .before .before .before .before .before .tapped2 .ensures) (c .before .before .before .tapped3 .ensures) (c .tapped4 .ensures)
+returns c =
+    let is-first = c .before .before .before .before .before .before .before .before .before .tapped .ensures in
+    let is-second = c .before .before .before .before .before .before .tapped2 .ensures in
+    four-of _ _ _ _ _ _ _ _ is-first is-second (c .before .before .before .tapped3 .ensures) (c .tapped4 .ensures)
 
 pub tapped-four-spec : {M : Type 1} → statement M
 tapped-four-spec =

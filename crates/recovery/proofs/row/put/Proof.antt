@@ -1,4 +1,4 @@
--- `recovery::row::put` meets its contract. Assumes nothing.
+-- `recovery::row::put` meets its contract: the two ways, by whether there is a symbol, are the definition's. Assumes nothing.
 use Rattle.recovery.specs.Laws.{put-none, put-here}
 use borrow.Author.Needs.{needs}
 use Rattle.recovery.proofs.row.put.Statement.{statement}

@@ -1,4 +1,4 @@
--- `signal::plain::error` meets its contract. Assumes nothing.
+-- `signal::plain::error` meets its contract: the two distances are of the sizes that `size` gives. Assumes nothing.
 use borrow.Author.Needs.{needs}
 use Rattle.signal.proofs.plain.error.Statement.{statement}
 use Rattle.signal.proofs.plain.error.Tie as tie

@@ -1,4 +1,4 @@
--- `signal::plain::narrow` meets its contract. Assumes nothing.
+-- `signal::plain::narrow` meets its contract: rounding the pattern in place is narrowing, since the number is zero or a normal f32's size. Assumes nothing.
 use native.Mathlib.Omega.{arith}
 use Rattle.signal.specs.Quotients.{in-place, in-place-number, in-place-exact, in-place-room}
 use Rattle.signal.proofs.plain.narrow.Statement.{statement}

@@ -1,4 +1,4 @@
--- `signal::plain::power_run` meets its contract. Assumes nothing.
+-- `signal::plain::power_run` meets its contract: the invariant is the power of the first i points. Assumes nothing.
 use Prim.Native.Nat.{_-_, _≤_}
 use mathlib.Core.Path.{_≡_, _∙_}
 use Rattle.laws.specs.Turns.{turns, turns-start, turns-step, turns-end}
@@ -45,7 +45,9 @@ loop-less : tie.Need-loop-less Inv-loop μ-loop
 loop-less c = search needs
 
 loop-again : tie.Need-loop-again Inv-loop μ-loop
-loop-again c = (search needs, c .with-point .ensures ∙ turns-step _ _ _ _ (c .before .before .before .before .loop .inv .1))
+loop-again c =
+    let so-far = c .before .before .before .before .loop .inv in
+    (search needs, c .with-point .ensures ∙ turns-step _ _ _ _ (so-far .1))
 
 returns : tie.Need-returns Inv-loop μ-loop
 returns c = turns-end _ _ _ _ _ (c .before .loop .inv .1) (search needs) (search needs)

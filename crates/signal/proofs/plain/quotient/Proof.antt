@@ -1,4 +1,4 @@
--- `signal::plain::quotient` meets its contract. Assumes nothing.
+-- `signal::plain::quotient` meets its contract: a plain part over a plain amplitude is zero or of a normal f32's size. Assumes nothing.
 use mathlib.Core.Path.{refl}
 use denote.Floats.{passes}
 use Rattle.signal.specs.Quotients.{plain-exact, usual-quotient}

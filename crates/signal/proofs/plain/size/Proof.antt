@@ -1,4 +1,4 @@
--- `signal::plain::size` meets its contract. Assumes nothing.
+-- `signal::plain::size` meets its contract: clearing the sign's bit of a pattern gives the size. Assumes nothing.
 use lib.Ieee.{binary64}
 use Rattle.numbers.specs.Laws.{abs-bits, abs-number}
 use Rattle.signal.proofs.plain.size.Statement.{statement}

@@ -1,4 +1,4 @@
--- `signal::plain::span` meets its contract. Assumes nothing.
+-- `signal::plain::span` meets its contract: the wrapped difference is the definition's remainder. Assumes nothing.
 use Prim.Native.Nat.{_+_, _*_, _%_}
 use lib.Ieee.{binary32, fits, toBits}
 use lib.Ieee.Bits.{is-true}

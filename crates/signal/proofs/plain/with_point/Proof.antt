@@ -1,20 +1,20 @@
--- `signal::plain::with_point` meets its contract. Assumes nothing.
+-- `signal::plain::with_point` meets its contract: a part that is no NaN is widened exactly; the rest is what the calls answer. Assumes nothing.
 use Rattle.signal.specs.Quotients.{number-exact}
 use borrow.Author.Needs.{needs}
 use Rattle.signal.proofs.plain.with_point.Statement.{statement}
 use Rattle.signal.proofs.plain.with_point.Tie as tie
 
-heard-requires : tie.Need-heard-requires
-heard-requires c κs = search needs
+no-nan-requires : tie.Need-no-nan-requires
+no-nan-requires c κs = search needs
 
-heard-requires-2 : tie.Need-heard-requires-2
-heard-requires-2 c κs = search needs
+no-nan-requires-2 : tie.Need-no-nan-requires-2
+no-nan-requires-2 c κs = search needs
 
 float-to-float-u : tie.Need-float-to-float-u
-float-to-float-u c = number-exact _ (c .row-known .given) (c .before .before .heard .ensures .1)
+float-to-float-u c = number-exact _ (c .row-known .given) (c .before .before .no-nan .ensures .1)
 
 float-to-float-v : tie.Need-float-to-float-v
-float-to-float-v c = number-exact _ (c .row-known2 .given) (c .before .before .heard2 .ensures .1)
+float-to-float-v c = number-exact _ (c .row-known2 .given) (c .before .before .no-nan2 .ensures .1)
 
 span-requires : tie.Need-span-requires
 span-requires c κs = search needs
@@ -29,14 +29,17 @@ smaller-requires-2 : tie.Need-smaller-requires-2
 smaller-requires-2 c κs = search needs
 
 returns : tie.Need-returns
-returns c = rw (c .smaller2 .ensures, c .before .span2 .ensures, c .before .before .smaller .ensures, c .before .before .before .span .ensures, c .before .before .before .before .before .before .before .heard2 .ensures .0, c .before .before .before .before .before .before .before .before .heard .ensures .0)
+returns c =
+    let is-y = c .before .before .before .before .before .before .before .no-nan2 .ensures in
+    let is-x = c .before .before .before .before .before .before .before .before .no-nan .ensures in
+    rw (c .smaller2 .ensures, c .before .span2 .ensures, c .before .before .smaller .ensures, c .before .before .before .span .ensures, is-y .0, is-x .0)
 
 pub with-point-spec : {M : Type 1} → statement M
 with-point-spec =
     tie.close
     (tie.spec
-    heard-requires
-    heard-requires-2
+    no-nan-requires
+    no-nan-requires-2
     float-to-float-u
     float-to-float-v
     span-requires

@@ -1,4 +1,4 @@
--- `signal::rows::divide_row` meets its contract. Assumes nothing.
+-- `signal::rows::divide_row` meets its contract: the invariant is the row after j turns, each with its two quotients. Assumes nothing.
 use mathlib.Core.Path.{_≡_}
 use Prim.Native.Nat.{_-_, _≤_}
 use lib.ListN.{length, length-set}
@@ -60,11 +60,12 @@ loop-less : tie.Need-loop-less Inv-loop μ-loop
 loop-less c = search needs
 
 loop-again : tie.Need-loop-again Inv-loop μ-loop
-loop-again c = (
-  search needs,
-  simp length-set (c .before .before .before .before .before .loop .inv .1),
-  rw (c .quotient2 .ensures .0, c .before .before .quotient .ensures .0) (turns-step _ _ _ _ (c .before .before .before .before .before .loop .inv .2)),
-)
+loop-again c =
+    let so-far = c .before .before .before .before .before .loop .inv in (
+      search needs,
+      simp length-set (so-far .1),
+      rw (c .quotient2 .ensures .0, c .before .before .quotient .ensures .0) (turns-step _ _ _ _ (so-far .2)),
+    )
 
 returns : tie.Need-returns Inv-loop μ-loop
 returns c = turns-end _ _ _ _ _ (c .before .loop .inv .2) (search needs) (search needs)

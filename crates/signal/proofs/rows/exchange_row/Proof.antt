@@ -1,4 +1,4 @@
--- `signal::rows::exchange_row` meets its contract. Assumes nothing.
+-- `signal::rows::exchange_row` meets its contract: writing a row and dividing the next into its places is the same as one after the other, since a turn reads its places before it writes them. Assumes nothing.
 use mathlib.Core.Path.{_≡_, refl}
 use Prim.Native.Nat.{_-_, _≤_}
 use lib.ListN.{length, length-set}
@@ -63,7 +63,9 @@ element-copy-out-quotient-2 : tie.Need-element-copy-out-quotient-2 Inv-loop μ-l
 element-copy-out-quotient-2 c = search needs
 
 quotient-requires-2 : tie.Need-quotient-requires-2 Inv-loop μ-loop
-quotient-requires-2 c κs = let p = c .before .before .before .before .before .before .before .before .pre .1 .1 .1 .1 .1 in (p .0 .imaginary _ (c .before .before .before .before .before .loop-test .taken), p .1)
+quotient-requires-2 c κs =
+    let more = c .before .before .before .before .before .loop-test .taken in
+    let p = c .before .before .before .before .before .before .before .before .pre .1 .1 .1 .1 .1 in (p .0 .imaginary _ more, p .1)
 
 mul-row-2 : tie.Need-mul-row-2 Inv-loop μ-loop
 mul-row-2 c = search needs
@@ -76,8 +78,10 @@ add-write-point c = search needs
 
 write-point-requires : tie.Need-write-point-requires Inv-loop μ-loop
 write-point-requires c κs =
+    let so-far = c .before .before .before .before .before .before .before .before .loop .inv in
+    let more = c .before .before .before .before .before .before .before .loop-test .taken in
     let a = c .before .before .before .before .before .before .before .before .before .before in
-    let u = usual-ahead (a .args .real .now) (a .args .imaginary .now) (a .args .amplitude) (a .args .next) _ _ _ (c .before .before .before .before .before .before .before .before .loop .inv .3) (c .before .before .before .before .before .before .before .loop-test .taken) (a .pre .1 .1 .1 .1 .0) in
+    let u = usual-ahead (a .args .real .now) (a .args .imaginary .now) (a .args .amplitude) (a .args .next) _ _ _ (so-far .3) more (a .pre .1 .1 .1 .1 .0) in
     (search needs, (search needs, (u .0, u .1)))
 
 add-j : tie.Need-add-j Inv-loop μ-loop
@@ -88,14 +92,17 @@ loop-less c = search needs
 
 loop-again : tie.Need-loop-again Inv-loop μ-loop
 loop-again c =
+    let more = c .before .before .before .before .before .before .before .before .before .before .loop-test .taken in
+    let is-quotient2 = c .before .before .before .before .quotient2 .ensures in
+    let is-quotient = c .before .before .before .before .before .before .quotient .ensures in
     let a = c .before .before .before .before .before .before .before .before .before .before .before .before .before .args in
     let v = c .before .before .before .before .before .before .before .before .before .before .before .loop .inv in
     let w = c .before .before .write-point .ensures in
-    let r = exchange-turn (a .real .now) (a .imaginary .now) (a .amplitude) (a .next) _ _ _ (v .3) (c .before .before .before .before .before .before .before .before .before .before .loop-test .taken) _ _ _ _ _ _ _ (v .4) (v .5) (w .0) (w .1) in (
+    let r = exchange-turn (a .real .now) (a .imaginary .now) (a .amplitude) (a .next) _ _ _ (v .3) more _ _ _ _ _ _ _ (v .4) (v .5) (w .0) (w .1) in (
       search needs,
       simp length-set (v .1),
       search needs,
-      rw (c .before .before .before .before .quotient2 .ensures .0, c .before .before .before .before .before .before .quotient .ensures .0) (turns-step _ _ _ _ (v .3)),
+      rw (is-quotient2 .0, is-quotient .0) (turns-step _ _ _ _ (v .3)),
       r .0,
       r .1,
     )

@@ -1,4 +1,4 @@
--- `signal::rows::write_point` meets its contract. Assumes nothing.
+-- `signal::rows::write_point` meets its contract: the two floats and the error are what `narrow` and `error` give. Assumes nothing.
 use native.Mathlib.Omega.{arith}
 use lib.ListN.{length-set}
 use borrow.Author.Needs.{needs}

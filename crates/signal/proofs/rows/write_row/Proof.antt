@@ -1,4 +1,4 @@
--- `signal::rows::write_row` meets its contract. Assumes nothing.
+-- `signal::rows::write_row` meets its contract: the invariants are the sum and the floats after j points. Assumes nothing.
 use mathlib.Core.Path.{_≡_, refl}
 use Prim.Native.Nat.{_-_, _≤_}
 use lib.ListN.{length}
@@ -50,9 +50,10 @@ loop-less c = search needs
 
 loop-again : tie.Need-loop-again Inv-loop μ-loop
 loop-again c =
+    let args = c .before .before .before .before .before .before .before .before .before .args in
     let v = c .before .before .before .before .before .before .before .loop .inv in
     let w = c .before .before .write-point .ensures in
-    let r = row-turn (c .before .before .before .before .before .before .before .before .before .args .row .now) _ _ _ _ _ _ _ _ (v .2) (v .3) (w .0) (w .1) in
+    let r = row-turn (args .row .now) _ _ _ _ _ _ _ _ (v .2) (v .3) (w .0) (w .1) in
     (search needs, search needs, r .0, r .1)
 
 same-length : tie.Need-same-length Inv-loop μ-loop

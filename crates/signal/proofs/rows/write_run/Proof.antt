@@ -1,4 +1,4 @@
--- `signal::rows::write_run` meets its contract. Assumes nothing.
+-- `signal::rows::write_run` meets its contract: the invariants are the sum and the floats after the whole rows so far, and the next row divided. Assumes nothing.
 use mathlib.Core.Path.{_≡_, refl}
 use Prim.Native.Nat.{_+_, _-_, _≤_}
 use native.Mathlib.Omega.{arith}
@@ -107,12 +107,13 @@ sub-divide-row c = search needs
 
 divide-row-requires-2 : tie.Need-divide-row-requires-2 Inv-loop μ-loop
 divide-row-requires-2 c κs =
+    let first = c .before .before .before .before .before .before .before .before .before .before .least .result in
     let p = c .before .before .before .before .before .before .before .before .before .before .before .before .pre .1 .1 .1 in
     let l = c .before .before .before .before .before .before .before .loop in (
       search needs,
       (
         search needs,
-        (l .inv .2 .size, (plain-within _ _ _ _ (l .at + c .before .before .before .before .before .before .before .before .before .before .least .result) _ _ (p .0) refl (omega arith), p .1)),
+        (l .inv .2 .size, (plain-within _ _ _ _ (l .at + first) _ _ (p .0) refl (omega arith), p .1)),
       ),
     )
 
@@ -124,10 +125,11 @@ add-write-row-2 c = search needs
 
 write-row-requires-2 : tie.Need-write-row-requires-2 Inv-loop μ-loop
 write-row-requires-2 c κs =
+    let first = c .before .before .before .before .before .before .before .before .before .before .before .before .before .least .result in
     let a = c .before .before .before .before .before .before .before .before .before .before .before .before .before .before .before .args in
     let p = c .before .before .before .before .before .before .before .before .before .before .before .before .before .before .before .pre .1 .1 .1 in
     let l = c .before .before .before .before .before .before .before .before .before .before .loop in
-    let at = l .at + c .before .before .before .before .before .before .before .before .before .before .before .before .before .least .result in
+    let at = l .at + first in
     let d = divided (a .real .now) (a .imaginary .now) (a .amplitude) (a .from + at) (a .count - at) _ _ (omega arith) (l .inv .2 .size) (c .before .before .divide-row2 .ensures) in (
       search needs,
       (search needs, (search needs, divided-usual _ _ _ _ _ _ d (plain-within _ _ _ _ at _ _ (p .0) refl (omega arith)) (p .1))),
@@ -138,12 +140,13 @@ same-length c = search needs
 
 returns : tie.Need-returns Inv-loop μ-loop
 returns c =
+    let is-divide-row2 = c .before .before .before .before .before .divide-row2 .ensures in
     let a = c .before .before .before .before .before .before .before .before .before .before .before .before .before .before .before .before .before .before .args in
     let l = c .before .before .before .before .before .before .before .before .before .before .before .before .before .loop in
     let v = l .inv in
     let first = c .before .before .before .before .before .before .before .before .before .before .before .before .before .before .before .before .least .result in
     let at = l .at + first in
-    let d = divided (a .real .now) (a .imaginary .now) (a .amplitude) (a .from + at) (a .count - at) _ _ (omega arith) (v .2 .size) (c .before .before .before .before .before .divide-row2 .ensures) in
+    let d = divided (a .real .now) (a .imaginary .now) (a .amplitude) (a .from + at) (a .count - at) _ _ (omega arith) (v .2 .size) is-divide-row2 in
     let e : at + (a .count - at) ≡ a .count = omega arith in
     let w = c .before .before .before .before .before .before .before .before .before .write-row .ensures in
     let r = row-on (a .real .now) (a .imaginary .now) (a .amplitude) (a .from) (a .done) (l .at) first at _ (v .2) refl _ _ _ _ _ _ (v .3) (v .4) (w .0) (w .1) in
