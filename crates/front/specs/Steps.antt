@@ -11,7 +11,7 @@ use Rattle.laws.specs.Turns.{turns, turns-foldl, turns-same}
 use Rattle.laws.specs.Places.{upto, length-upto, upto-at}
 use Rattle.complex.specs.declared.Complex32.{Complex32}
 use Rattle.oscillator.specs.declared.Oscillator.{Oscillator}
-use Rattle.oscillator.specs.Oscillator.{freshOscillator, turnedOf, mixedOf}
+use Rattle.oscillator.specs.Oscillator.{freshOf as freshOscillator, turnedOf, mixedOf}
 use Rattle.decimator.specs.declared.Decimator.{Decimator}
 use Rattle.decimator.specs.Decimator.{freshOf as freshDecimator}
 use Rattle.resampler.specs.declared.dimensions.Dimensions.{Dimensions}

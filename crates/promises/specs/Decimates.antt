@@ -18,7 +18,7 @@ use Rattle.numbers.specs.Numbers.{wholeOf, absOf, isFinite}
 use Rattle.complex.specs.declared.Complex32.{Complex32}
 use Rattle.complex.specs.Complex.{zeroPair}
 use Rattle.oscillator.specs.declared.Oscillator.{Oscillator}
-use Rattle.oscillator.specs.Oscillator.{freshOscillator, turnedOf, mixedOf}
+use Rattle.oscillator.specs.Oscillator.{freshOf as freshOscillator, turnedOf, mixedOf}
 use Rattle.decimator.specs.declared.Decimator.{Decimator}
 use Rattle.decimator.specs.declared.Output.{Output}
 use Rattle.decimator.specs.declared.Output.the-variants.{Nothing, Value}
