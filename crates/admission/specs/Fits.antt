@@ -7,7 +7,8 @@ use lib.Dec.{ltb, leb}
 use lib.ListN.{getD}
 use borrow.Author.Tests.{ltb-true, leb-true, lt-ltb, le-leb}
 use Rattle.resampler.specs.Pass as resampler
-use Rattle.resampler.specs.Ready.{Ready, admitted-ready, ready-admitted}
+use Rattle.resampler.specs.Admitted.{Admitted as Ready}
+use Rattle.resampler.specs.AdmittedLaws.{admitted-facts as admitted-ready, facts-admitted as ready-admitted}
 use Rattle.clock.specs.Clock as Clock
 use Rattle.clock.specs.Ranges as clock
 use Rattle.clock.specs.AdmittedLaws.{admitted-facts, facts-admitted}

@@ -8,7 +8,8 @@ use lib.Dec.{eqb}
 use lib.ListN.{getD-replicate}
 use lib.Ieee.{Float}
 use Rattle.resampler.specs.declared.dimensions.Dimensions.{Dimensions}
-use Rattle.resampler.specs.Ranges.{Sized, fresh-ready}
+use Rattle.resampler.specs.Admitted.{Sized}
+use Rattle.resampler.specs.Ranges.{fresh-admitted as fresh-ready}
 use Rattle.resampler.specs.Dimensions as resampler
 use Rattle.decimator.specs.Decimator as decimator
 use Rattle.clock.specs.Laws.{fresh-admitted}

@@ -9,7 +9,7 @@ use Rattle.complex.specs.declared.Observation.the-variants.{Absent}
 use Rattle.signal.specs.Signal as signal
 use Rattle.peak.specs.Peak as peak
 use Rattle.decimator.specs.Decimator as decimator
-use Rattle.oscillator.specs.Oscillator.{freshOscillator}
+use Rattle.oscillator.specs.Oscillator.{freshOf as freshOscillator}
 use Rattle.resampler.specs.declared.dimensions.Dimensions.{Dimensions}
 use Rattle.resampler.specs.Dimensions as resampler
 use Rattle.equalizer.specs.Equalizer as equalizer

@@ -1,6 +1,6 @@
 // Case 13: how many outputs each of the first samples makes due. At 9,600 samples a second the
 // decimator passes them on as they are.
-ghost use Rattle.resampler.specs.Ready.{Ready};
+ghost use Rattle.resampler.specs.Admitted.{Admitted};
 ghost use mathlib.Core.Path.{_≡_};
 use super::say::number;
 use super::say::text;
@@ -10,7 +10,7 @@ use resampler::pass::Resampler;
 
 // Fourteen samples, each with the count of its outputs.
 fn pass(fresh: Resampler, table: &[f32; 18432])
-    requires { ⌜ Ready fresh ⌝ }
+    requires { ⌜ Admitted fresh ⌝ }
     requires { ⌜ fresh .index ≡ 0 ⌝ }
 {
     let mut real = [0.0; 592];

@@ -1,4 +1,4 @@
--- P1 to P8 of document 01: one table, and one proof that the definitions give it. Assumes nothing.
+-- The worked examples P1 to P8 (docs/SPECIFICATION.md): one table, and one proof that the definitions give it. Assumes nothing.
 use Prim.Native.Nat.{ℕ, _-_, _*_, _^_}
 use mathlib.Core.Path.{_≡_, refl}
 use mathlib.Core.Bool.{true, false}
@@ -8,19 +8,19 @@ use lib.Ieee.{Float, nan, inf, fin, mul, ofBits, toSigned}
 use Rattle.laws.specs.Places.{upto}
 use Rattle.numbers.specs.Numbers.{wholeOf}
 use Rattle.decimator.specs.declared.Counts.{Counts}
-use Rattle.decimator.specs.declared.Answer.{Answer}
-use Rattle.decimator.specs.declared.Answer.the-variants.{Silent, Sum}
-use Rattle.decimator.specs.Decimator.{quantiseOf, freshOf, modulo, integratedOf, combedOf, advancedOf, answersOf}
+use Rattle.decimator.specs.declared.RawOutput.{RawOutput}
+use Rattle.decimator.specs.declared.RawOutput.the-variants.{Silent, Sum}
+use Rattle.decimator.specs.Decimator.{quantisedOf, freshOf, modulo, integratedOf, combedOf, advancedOf, rawOutputsOf}
 use Rattle.decimator.specs.Demand.{weight}
 
--- one number in both parts, and the sums among a row's answers
+-- one number in both parts, and the sums among a row's raw outputs
 abbrev pub twin : ℤ → Counts
 twin n = record { real = n; imaginary = n }
 
-abbrev pub sums : List Answer → List Counts
+abbrev pub sums : List RawOutput → List Counts
 sums [] = []
-sums (Silent ∷ answers) = sums answers
-sums (Sum n ∷ answers) = n ∷ sums answers
+sums (Silent ∷ raw) = sums raw
+sums (Sum n ∷ raw) = n ∷ sums raw
 
 pub data Case : Type 0 where
   -- decimating by d from fresh, these samples in both parts give these outputs
@@ -30,9 +30,9 @@ pub data Case : Type 0 where
   quantising : Float → ℤ → Case
 
 abbrev pub Holds : Case → Type 0
-Holds (decimating d samples outputs) = sums (answersOf (freshOf d) (map twin samples)) ≡ map twin outputs
+Holds (decimating d samples outputs) = sums (rawOutputsOf (freshOf d) (map twin samples)) ≡ map twin outputs
 Holds (weighing d weights) = upto (weight d) (3 * d - 2) ≡ weights
-Holds (quantising x n) = quantiseOf x ≡ n
+Holds (quantising x n) = quantisedOf x ≡ n
 
 abbrev pub All : List Case → Type 0
 All [] = Unit {0}
@@ -57,5 +57,5 @@ table =
     ∷ []
 
 pub covered : All table
-unfolding answersOf freshOf advancedOf integratedOf combedOf modulo weight upto quantiseOf wholeOf mul ofBits toSigned
+unfolding rawOutputsOf freshOf advancedOf integratedOf combedOf modulo weight upto quantisedOf wholeOf mul ofBits toSigned
 covered = (refl, (refl, (refl, (refl, (refl, (refl, (refl, (refl, (refl, (refl, tt))))))))))

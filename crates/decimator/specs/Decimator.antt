@@ -1,8 +1,9 @@
 -- The decimator: the quantiser, three integrators for each sample and three combs at every d-th, and the scale of what comes out. Definitions only.
-use Prim.Native.Nat.{ℕ, suc, _+_, _-_, _%_, _^_}
-use mathlib.Core.Bool.{cond}
+use mathlib.Core.Path.{_≡_}
+use Prim.Native.Nat.{ℕ, suc, _+_, _-_, _%_, _^_, _≤_, _<_}
+use mathlib.Core.Bool.{Bool, cond, _&&_}
 use mathlib.Core.List.{List, [], _∷_}
-use lib.Dec.{ltb}
+use lib.Dec.{leb, ltb}
 use lib.IntN.{ℤ, pos, negsuc}
 use lib.Ieee.{Float, binary32, binary64, ofBits, ofInt, toSigned, mul, div}
 use Rattle.complex.specs.declared.Complex32.{Complex32}
@@ -16,19 +17,27 @@ use Rattle.decimator.specs.declared.Decimator.{Decimator}
 use Rattle.decimator.specs.declared.Difference.{Difference}
 use Rattle.decimator.specs.declared.Release.{Release}
 use Rattle.decimator.specs.declared.Decimated.{Decimated}
-use Rattle.decimator.specs.declared.Answer.{Answer}
-use Rattle.decimator.specs.declared.Answer.the-variants.{Silent, Sum}
+use Rattle.decimator.specs.declared.RawOutput.{RawOutput}
+use Rattle.decimator.specs.declared.RawOutput.the-variants.{Silent, Sum}
 use Rattle.decimator.specs.declared.Advance.{Advance}
 use Rattle.decimator.specs.declared.Output.{Output}
 use Rattle.decimator.specs.declared.Output.the-variants.{Nothing, Value}
 use Rattle.decimator.specs.declared.Step.{Step}
 
--- ---- the quantiser: a part times 32,768, a half away from zero, saturated at 64 bits; a NaN gives 0
-unfoldable pub quantiseOf : Float → ℤ
-quantiseOf x = toSigned 63 (wholeOf away binary64 (mul binary64 x (ofBits binary64 0x40e0_0000_0000_0000)))
+abbrev pub one64 : Float
+one64 = ofBits binary64 0x3ff0_0000_0000_0000  -- 1
 
+-- so many whole numbers from 0 to a part of 1
+abbrev pub unit : Float
+unit = ofBits binary64 0x40e0_0000_0000_0000  -- 32768
+
+-- ---- the quantiser: a part times 32,768, a half away from zero, saturated at 64 bits; a NaN gives 0
+unfoldable pub quantisedOf : Float → ℤ
+quantisedOf x = toSigned 63 (wholeOf away binary64 (mul binary64 x unit))
+
+-- both parts of a sample
 abbrev pub countsOf : Complex32 → Counts
-countsOf z = record { real = quantiseOf (z .real); imaginary = quantiseOf (z .imaginary) }
+countsOf z = record { real = quantisedOf (z .real); imaginary = quantisedOf (z .imaginary) }
 
 -- ---- sums and differences modulo 2 ^ 64
 
@@ -57,18 +66,35 @@ combedOf y sum =
     record { delays = record { first = sum; second = a; third = b }; value = signedOf (wrapSub b (y .third)) }
 
 -- ---- both parts and their counter
+
+-- nothing has come in
 unfoldable pub freshOf : ℕ → Decimator
 freshOf d =
     let none : Sums = record { first = 0; second = 0; third = 0 } in
     let still : Delays = record { first = 0; second = 0; third = 0 } in
     record { decimation = d; counter = 0; integrators = record { real = none; imaginary = none }; combs = record { real = still; imaginary = still } }
 
+-- may this decimator be run: one output for 1 to 78 samples, and fewer than that since the last output
+abbrev pub admittedOf : Decimator → Bool
+admittedOf d = leb 1 (d .decimation) && (leb (d .decimation) 78 && ltb (d .counter) (d .decimation))
+
+-- the same as facts
+pub record Admitted (d : Decimator) : Type 0 where
+  pub decimation-low : 1 ≤ d .decimation
+  pub decimation-high : d .decimation ≤ 78
+  pub counter-in : d .counter < d .decimation
+
+-- a decimator by n, with fewer samples than that since the last output
+pub record Counting (n : ℕ) (d : Decimator) : Type 0 where
+  pub by : d .decimation ≡ n
+  pub early : d .counter < n
+
 abbrev pub absorbedOf : Integrators → Counts → Integrators
 absorbedOf s n = record { real = integratedOf (s .real) (n .real); imaginary = integratedOf (s .imaginary) (n .imaginary) }
 
--- a sample that is not the d-th, and one that is
+-- a sample that is not the d-th, and one that is: the combs' sums, and the counter at 0 again
 abbrev pub silentOf : Decimator → Integrators → Advance
-silentOf d s = record { decimator = record { decimation = d .decimation; counter = d .counter + 1; integrators = s; combs = d .combs }; answer = Silent }
+silentOf d s = record { decimator = record { decimation = d .decimation; counter = d .counter + 1; integrators = s; combs = d .combs }; raw = Silent }
 
 abbrev pub releasedOf : Decimator → Integrators → Release
 releasedOf d s =
@@ -80,18 +106,18 @@ releasedOf d s =
     }
 
 abbrev pub soundedOf : Decimator → Integrators → Advance
-soundedOf d s = record { decimator = releasedOf d s .decimator; answer = Sum (releasedOf d s .sum) }
+soundedOf d s = record { decimator = releasedOf d s .decimator; raw = Sum (releasedOf d s .sum) }
 
 unfoldable pub advancedOf : Decimator → Counts → Advance
 advancedOf d n =
     let s = absorbedOf (d .integrators) n in
     cond (ltb (d .counter + 1) (d .decimation)) (silentOf d s) (soundedOf d s)
 
--- the answers to a row of samples, one for each
-unfoldable pub answersOf : Decimator → List Counts → List Answer
+-- the raw outputs of a row of samples, one for each
+unfoldable pub rawOutputsOf : Decimator → List Counts → List RawOutput
 unfolding advancedOf
-answersOf d [] = []
-answersOf d (n ∷ ns) = advancedOf d n .answer ∷ answersOf (advancedOf d n .decimator) ns
+rawOutputsOf d [] = []
+rawOutputsOf d (n ∷ ns) = advancedOf d n .raw ∷ rawOutputsOf (advancedOf d n .decimator) ns
 
 -- ---- from floats to floats
 
@@ -99,7 +125,7 @@ answersOf d (n ∷ ns) = advancedOf d n .answer ∷ answersOf (advancedOf d n .d
 unfoldable pub scaleOf : ℕ → Float
 scaleOf d =
     let x = ofInt binary64 (pos d) in
-    div binary64 (ofBits binary64 0x3ff0_0000_0000_0000) (mul binary64 (mul binary64 (mul binary64 (ofBits binary64 0x40e0_0000_0000_0000) x) x) x)
+    div binary64 one64 (mul binary64 (mul binary64 (mul binary64 unit x) x) x)
 
 abbrev pub scaledOf : ℕ → Counts → Complex32
 scaledOf d n = record {
@@ -110,7 +136,7 @@ scaledOf d n = record {
 abbrev pub decimatedOf : Decimator → Integrators → Decimated
 decimatedOf d s = record { decimator = releasedOf d s .decimator; value = scaledOf (d .decimation) (releasedOf d s .sum) }
 
-unfoldable pub outputOf : ℕ → Answer → Output
+unfoldable pub outputOf : ℕ → RawOutput → Output
 outputOf d Silent = Nothing
 outputOf d (Sum n) = Value (scaledOf d n)
 
@@ -118,7 +144,7 @@ outputOf d (Sum n) = Value (scaledOf d n)
 unfoldable pub steppedOf : Decimator → Complex32 → Step
 steppedOf d z =
     let a = advancedOf d (countsOf z) in
-    cond (ltb 1 (d .decimation)) (record { decimator = a .decimator; output = outputOf (d .decimation) (a .answer) }) (record { decimator = d; output = Value z })
+    cond (ltb 1 (d .decimation)) (record { decimator = a .decimator; output = outputOf (d .decimation) (a .raw) }) (record { decimator = d; output = Value z })
 
 -- the outputs of a row of samples, one for each
 unfoldable pub outputsOf : Decimator → List Complex32 → List Output

@@ -1,4 +1,4 @@
--- What the decimator's answers are to be (demand 3). Definitions only.
+-- What the decimator's raw outputs are to be: the latest 3d - 2 samples, weighted by their age. Definitions only.
 use Prim.Native.Nat.{ℕ, zero, suc, _+_, _-_, _*_, _%_, _^_}
 use mathlib.Core.Bool.{Bool, cond}
 use mathlib.Core.List.{List}
@@ -7,8 +7,8 @@ use lib.IntN.{ℤ, pos, _+ℤ_, _*ℤ_}
 use lib.ListN.{length, getD}
 use Rattle.laws.specs.Places.{upto}
 use Rattle.decimator.specs.declared.Counts.{Counts}
-use Rattle.decimator.specs.declared.Answer.{Answer}
-use Rattle.decimator.specs.declared.Answer.the-variants.{Silent, Sum}
+use Rattle.decimator.specs.declared.RawOutput.{RawOutput}
+use Rattle.decimator.specs.declared.RawOutput.the-variants.{Silent, Sum}
 use Rattle.numbers.specs.Bits.{signedOf}
 use Rattle.decimator.specs.Decimator.{modulo}
 
@@ -50,14 +50,14 @@ ago xs n a = cond (leb a n) (getD xs (n - a) noCounts) noCounts
 abbrev pub sumsAt : ℕ → List Counts → ℕ → Counts
 sumsAt d xs n = record { real = weighted d (λ a. ago xs n a .real); imaginary = weighted d (λ a. ago xs n a .imaginary) }
 
--- the answer there: silent but at every d-th sample
-unfoldable pub demanded : ℕ → List Counts → ℕ → Answer
+-- the raw output there: silent but at every d-th sample
+unfoldable pub demanded : ℕ → List Counts → ℕ → RawOutput
 unfolding weighted wrapped
 demanded d xs n =
     let s = sumsAt d xs n in
     cond (eqb ((n + 1) % d) 0) (Sum (record { real = wrapped (s .real); imaginary = wrapped (s .imaginary) })) Silent
 
--- the answers to a row
-unfoldable pub demandedRow : ℕ → List Counts → List Answer
+-- the raw outputs of a row
+unfoldable pub demandedRow : ℕ → List Counts → List RawOutput
 unfolding demanded upto
 demandedRow d xs = upto (demanded d xs) (length xs)

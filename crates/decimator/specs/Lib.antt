@@ -3,6 +3,7 @@ pub mod Demand
 pub mod Cases
 pub mod Theorem
 pub mod Values
+pub mod AdmittedLaws
 pub mod Rows
 pub mod Part
 pub mod Past

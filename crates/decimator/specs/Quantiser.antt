@@ -4,7 +4,8 @@
 use mathlib.Core.Path.{_≡_, refl, sym, ap, _∙_, subst}
 use mathlib.Core.Logic.{⊎-elim}
 use Prim.Native.Nat.{ℕ, zero, suc, _+_, _-_, _*_, _/_, _%_, _^_, _≤_, _<_}
-use native.Mathlib.Nat.{mul-comm, mul-assoc, mul-right-comm, mul-pos, mul-one, zero-mul, add-mul, mul-sub, eq-of-mul-eq-mul-right, lt-of-mul-lt-mul-right, le-of-mul-le-mul-right, mul-le-mul-right, mul-lt-mul-of-pos-right, div-add-mod', div-mul-le-self, eq-zero-or-pos, mod-lt, lt-of-lt-of-le, le-trans, le-of-eq, lt-of-le-of-lt, add-le-add, le-refl, lt-irrefl, add-comm}
+use native.Mathlib.Nat.{mul-comm, mul-assoc, mul-right-comm, mul-pos, mul-one, zero-mul, add-mul, mul-sub, eq-of-mul-eq-mul-right, lt-of-mul-lt-mul-right, le-of-mul-le-mul-right, mul-le-mul-right}
+use native.Mathlib.Nat.{mul-lt-mul-of-pos-right, div-add-mod', div-mul-le-self, eq-zero-or-pos, mod-lt, lt-of-lt-of-le, le-trans, le-of-eq, lt-of-le-of-lt, add-le-add, le-refl, lt-irrefl, add-comm}
 use native.Mathlib.Omega.{arith}
 use mathlib.Core.Bool.{Bool, true, false, not, cond, Bool·beq, _&&_, false≢true}
 use lib.IntN.{ℤ, pos, negsuc, negℤ}
@@ -25,7 +26,7 @@ use Rattle.laws.specs.Ring.{lt-or-ge}
 use Rattle.numbers.specs.Numbers.{wholeOf, away}
 use Rattle.patterns.specs.Shift.{near-lt, near-gt}
 use Rattle.numbers.proofs.ToWhole.{away-is, whole-value}
-use Rattle.decimator.specs.Decimator.{quantiseOf}
+use Rattle.decimator.specs.Decimator.{quantisedOf}
 
 -- ---- a sum by the values of its terms
 module _ (c W : ℕ) (C : 0 < c) (W₀ : 0 < W) (U R a b : ℕ) (p : U * c ≡ a * W) (q : R * c ≡ b * W) where
@@ -392,7 +393,7 @@ within-size false m e =
 pub record Quantised (x : Float) : Type 0 where
   pub number : T (fits binary64 x && not (isNan x))
   pub whole : T (inSigned binary64 63 (sub binary64 (add binary64 (mul binary64 x factor) middle) middle))
-  pub is : toSigned 63 (sub binary64 (add binary64 (mul binary64 x factor) middle) middle) ≡ quantiseOf x
+  pub is : toSigned 63 (sub binary64 (add binary64 (mul binary64 x factor) middle) middle) ≡ quantisedOf x
 
 cast : (s : Bool) (w : ℕ) → w ≤ 2 ^ 25 → T (inSigned binary64 63 (ofInt binary64 (signedWhole s w))) × (toSigned 63 (ofInt binary64 (signedWhole s w)) ≡ signedWhole s w)
 unfolding inFloat
@@ -406,8 +407,8 @@ quantised-value false w h = unfold ofInt in cast false w h .1
 quantised-value true zero h = ap (toSigned 63) (round-zero binary64 true 1 (lit< tt))
 quantised-value true (suc w) h = unfold ofInt in cast true (suc w) h .1
 
-quantise-is : (s : Bool) (m : ℕ) (e : ℤ) (p : Part m e) (l : m * up e < 512 * down e) → quantiseOf (fin s m e) ≡ signedWhole s (w s m e p l)
-unfolding quantiseOf ofBits scale w
+quantise-is : (s : Bool) (m : ℕ) (e : ℤ) (p : Part m e) (l : m * up e < 512 * down e) → quantisedOf (fin s m e) ≡ signedWhole s (w s m e p l)
+unfolding quantisedOf ofBits scale w
 quantise-is s m e p l =
     ap (toSigned 63) (whole-value away away-is binary64 (mul binary64 (fin s m e) scale) s (m * up e * 2 ^ 15) (down e) (down-pos e) (scaled-value s m e p))
     ∙ quantised-value s (w s m e p l) (few-w s m e p l)
@@ -448,8 +449,8 @@ scaled-whole s m e p h =
     ∙ sym (mul-assoc (m * up e) (2 ^ (15 - places e)) (down e)))
     (scaled-value s m e p))
 
-pub quantises-beyond : (x : Float) → T (fits binary32 x) → within x ≡ false → toSigned 63 (mul binary64 x (ofBits binary64 0x40e0_0000_0000_0000)) ≡ quantiseOf x
-unfolding quantiseOf ofBits scale
+pub quantises-beyond : (x : Float) → T (fits binary32 x) → within x ≡ false → toSigned 63 (mul binary64 x (ofBits binary64 0x40e0_0000_0000_0000)) ≡ quantisedOf x
+unfolding quantisedOf ofBits scale
 quantises-beyond nan F h = unfold mul wholeOf in refl
 quantises-beyond (inf true) F h = unfold mul wholeOf in refl
 quantises-beyond (inf false) F h = unfold mul wholeOf in refl

@@ -1,4 +1,4 @@
--- Demand 3. From a fresh decimator every row of samples is answered as `demandedRow` says; where the samples lie within 2 ^ 44 each output is the weighted sum itself.
+-- The decimator's theorem. From a fresh decimator every row of samples gives the raw outputs that `demandedRow` says; where the samples lie within 2 ^ 44 each output is the weighted sum itself.
 -- What came more than 3d - 2 samples ago leaves nothing behind, and what a state held leaves nothing behind from the fourth output on. Assumes nothing.
 use Prim.Native.Nat.{ℕ, zero, suc, _+_, _-_, _*_, _%_, _^_, _≤_, _<_}
 use native.Mathlib.Nat.{mod-eq-of-lt, le-trans, lt-of-le-of-lt, mul-le-mul, mul-le-mul-right, le-refl, le-suc}
@@ -17,21 +17,21 @@ use Rattle.laws.specs.Places.{upto-is}
 use Rattle.laws.specs.Ring.{lt-or-ge}
 use Rattle.decimator.specs.declared.Counts.{Counts}
 use Rattle.decimator.specs.declared.Decimator.{Decimator}
-use Rattle.decimator.specs.declared.Answer.{Answer}
-use Rattle.decimator.specs.declared.Answer.the-variants.{Silent, Sum}
-use Rattle.decimator.specs.Decimator.{freshOf, advancedOf, answersOf}
+use Rattle.decimator.specs.declared.RawOutput.{RawOutput}
+use Rattle.decimator.specs.declared.RawOutput.the-variants.{Silent, Sum}
+use Rattle.decimator.specs.Decimator.{freshOf, advancedOf, rawOutputsOf}
 use Rattle.decimator.specs.Demand.{sumZ, weighted, wrapped, noCounts, ago, sumsAt, demanded, demandedRow}
 use Rattle.decimator.specs.Boxes.{triple, weighted-is, weighted-same}
 use Rattle.decimator.specs.Residues.{natAbs-add, wrapped-id}
 use Rattle.decimator.specs.Past.{past, past-at, past-before}
 use Rattle.decimator.specs.Part.{kept-fresh, Words, oldest, middle, latest, kept-any}
-use Rattle.decimator.specs.Rows.{Holds, said, answered, answer-at}
+use Rattle.decimator.specs.Rows.{Holds, said, expected, raw-output-at}
 
--- ---- THE THEOREM: from fresh, every row is answered as demanded
-answers-length : (s : Decimator) (xs : List Counts) → length (answersOf s xs) ≡ length xs
-unfolding answersOf
-answers-length s [] = refl
-answers-length s (x ∷ xs) = ap suc (answers-length (advancedOf s x .decimator) xs)
+-- ---- THE THEOREM: from fresh, the raw outputs of every row are those demanded
+raw-outputs-length : (s : Decimator) (xs : List Counts) → length (rawOutputsOf s xs) ≡ length xs
+unfolding rawOutputsOf
+raw-outputs-length s [] = refl
+raw-outputs-length s (x ∷ xs) = ap suc (raw-outputs-length (advancedOf s x .decimator) xs)
 
 holds-fresh : (d : ℕ) → 0 < d → Holds d 3 [] (freshOf d)
 unfolding freshOf
@@ -56,19 +56,19 @@ said-row d h xs n e = λ j. Sum (record {
 first-output : (d n : ℕ) → 0 < d → (n + 1) % d ≡ 0 → d ≤ n + 1
 first-output d n D e = ⊎-elim (λ l. let f : (n + 1) % d ≡ n + 1 = mod-eq-of-lt l in absurd (omega arith)) (λ l. l) (lt-or-ge (n + 1) d)
 
-pub decimates-at : (d : ℕ) → 0 < d → (xs : List Counts) (n : ℕ) → n < length xs → getD (answersOf (freshOf d) xs) n Silent ≡ demanded d xs n
+pub decimates-at : (d : ℕ) → 0 < d → (xs : List Counts) (n : ℕ) → n < length xs → getD (rawOutputsOf (freshOf d) xs) n Silent ≡ demanded d xs n
 unfolding demanded freshOf
 decimates-at d D xs n l =
     let e : 0 + n + 1 ≡ n + 1 = omega arith in
-    answer-at d D xs n 3 [] (freshOf d) (holds-fresh d D) l (λ z. let m = first-output d n D (ap (λ (t : ℕ). t % d) (sym e) ∙ z) in omega arith)
-    ∙ ap (λ (t : ℕ). answered d t (past [] xs n)) e
-    ∙ ap (λ (v : Answer). cond (eqb ((n + 1) % d) 0) v Silent) (said-row d (past [] xs n) xs n (λ a m. past-ago xs n a l))
+    raw-output-at d D xs n 3 [] (freshOf d) (holds-fresh d D) l (λ z. let m = first-output d n D (ap (λ (t : ℕ). t % d) (sym e) ∙ z) in omega arith)
+    ∙ ap (λ (t : ℕ). expected d t (past [] xs n)) e
+    ∙ ap (λ (v : RawOutput). cond (eqb ((n + 1) % d) 0) v Silent) (said-row d (past [] xs n) xs n (λ a m. past-ago xs n a l))
 
-pub decimates : (d : ℕ) → 0 < d → (xs : List Counts) → answersOf (freshOf d) xs ≡ demandedRow d xs
+pub decimates : (d : ℕ) → 0 < d → (xs : List Counts) → rawOutputsOf (freshOf d) xs ≡ demandedRow d xs
 unfolding demandedRow
-decimates d D xs = upto-is (demanded d xs) (length xs) Silent (answersOf (freshOf d) xs) (answers-length (freshOf d) xs) (decimates-at d D xs)
+decimates d D xs = upto-is (demanded d xs) (length xs) Silent (rawOutputsOf (freshOf d) xs) (raw-outputs-length (freshOf d) xs) (decimates-at d D xs)
 
--- the answer demanded, case by case
+-- the raw output demanded, case by case
 abbrev pub wrappedSums : ℕ → List Counts → ℕ → Counts
 wrappedSums d xs n = record { real = wrapped (sumsAt d xs n .real); imaginary = wrapped (sumsAt d xs n .imaginary) }
 
@@ -116,13 +116,13 @@ pub record Within (c : Counts) : Type 0 where
   pub imaginary-part : natAbs (c .imaginary) ≤ 2 ^ 44
 
 pub decimates-exactly : (d : ℕ) → 0 < d → d ≤ 78 → (xs : List Counts) (n : ℕ) → n < length xs → (n + 1) % d ≡ 0 → ((a : ℕ) → a < 3 * d - 2 → Within (ago xs n a))
-    → getD (answersOf (freshOf d) xs) n Silent ≡ Sum (sumsAt d xs n)
+    → getD (rawOutputsOf (freshOf d) xs) n Silent ≡ Sum (sumsAt d xs n)
 decimates-exactly d D D78 xs n l e k =
     decimates-at d D xs n l
     ∙ demanded-sum d xs n e
     ∙ (λ j. Sum (record { real = exact d D78 (λ a. ago xs n a .real) (λ a m. k a m .real-part) j; imaginary = exact d D78 (λ a. ago xs n a .imaginary) (λ a m. k a m .imaginary-part) j }))
 
--- ---- forgetting: rows that agree on the latest 3d - 2 samples are answered alike there, whatever came before
+-- ---- forgetting: rows that agree on the latest 3d - 2 samples have the same raw output there, whatever came before
 agree : (d : ℕ) (xs ys : List Counts) (n m : ℕ) → (n + 1) % d ≡ (m + 1) % d → ((a : ℕ) → a < 3 * d - 2 → ago xs n a ≡ ago ys m a) → demanded d xs n ≡ demanded d ys m
 unfolding demanded
 agree d xs ys n m e k = λ j. cond (eqb (e j) 0) (Sum (record {
@@ -138,28 +138,28 @@ ago-latest before latest n a h =
     ∙ getD-append-add before latest (n - a) noCounts
 
 pub forgets-at : (d : ℕ) → 0 < d → (xs ys : List Counts) (n : ℕ) → n < length xs → n < length ys → ((a : ℕ) → a < 3 * d - 2 → ago xs n a ≡ ago ys n a)
-    → getD (answersOf (freshOf d) xs) n Silent ≡ getD (answersOf (freshOf d) ys) n Silent
+    → getD (rawOutputsOf (freshOf d) xs) n Silent ≡ getD (rawOutputsOf (freshOf d) ys) n Silent
 forgets-at d D xs ys n l m k = decimates-at d D xs n l ∙ agree d xs ys n n refl k ∙ sym (decimates-at d D ys n m)
 
 pub forgets : (d : ℕ) → 0 < d → (before earlier latest : List Counts) → length before ≡ length earlier → (n : ℕ) → 3 * d - 2 ≤ n + 1 → n < length latest
-    → getD (answersOf (freshOf d) (before ++ latest)) (length before + n) Silent ≡ getD (answersOf (freshOf d) (earlier ++ latest)) (length earlier + n) Silent
+    → getD (rawOutputsOf (freshOf d) (before ++ latest)) (length before + n) Silent ≡ getD (rawOutputsOf (freshOf d) (earlier ++ latest)) (length earlier + n) Silent
 forgets d D before earlier latest e n h l =
     decimates-at d D (before ++ latest) (length before + n) (simp length-append (omega arith))
     ∙ agree d (before ++ latest) (earlier ++ latest) (length before + n) (length earlier + n) (ap (λ (k : ℕ). (k + n + 1) % d) e)
     (λ a m. ago-latest before latest n a (omega arith) ∙ sym (ago-latest earlier latest n a (omega arith)))
     ∙ sym (decimates-at d D (earlier ++ latest) (length earlier + n) (simp length-append (omega arith)))
 
--- ---- and so is what a state holds: from the fourth output on every state answers by the row alone
+-- ---- and so is what a state holds: from the fourth output on the raw outputs of every state are those of the row alone
 pub recovers : (s : Decimator) → Words (s .integrators .real) → Words (s .integrators .imaginary) → s .counter < s .decimation
     → (xs : List Counts) (n : ℕ) → n < length xs → 4 * s .decimation ≤ s .counter + n + 1
-    → getD (answersOf s xs) n Silent
+    → getD (rawOutputsOf s xs) n Silent
     ≡ cond (eqb ((s .counter + n + 1) % s .decimation) 0) (Sum (record { real = wrapped (sumsAt (s .decimation) xs n .real); imaginary = wrapped (sumsAt (s .decimation) xs n .imaginary) })) Silent
 recovers s R I c xs n l h =
     let d = s .decimation in
     let x = s .integrators .real in
     let y = s .integrators .imaginary in
     let past₃ : List Counts = record { real = latest x; imaginary = latest y } ∷ record { real = middle x; imaginary = middle y } ∷ record { real = oldest x; imaginary = oldest y } ∷ [] in
-    answer-at d (omega arith) xs n 0 past₃ s
+    raw-output-at d (omega arith) xs n 0 past₃ s
     (record { by = refl; early = c; real-part = kept-any x d (s .counter) (s .combs .real) R; imaginary-part = kept-any y d (s .counter) (s .combs .imaginary) I }) l (λ e. omega arith)
-    ∙ ap (λ (v : Answer). cond (eqb ((s .counter + n + 1) % d) 0) v Silent)
+    ∙ ap (λ (v : RawOutput). cond (eqb ((s .counter + n + 1) % d) 0) v Silent)
     (said-row d (past past₃ xs n) xs n (λ a m. past-at noCounts past₃ xs n a l (omega arith) ∙ ap (λ (b : Bool). cond b (getD xs (n - a) noCounts) noCounts) (sym (le-leb a n (omega arith)))))

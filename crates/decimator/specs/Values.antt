@@ -1,4 +1,4 @@
--- From floats to floats: the outputs are the answers to the quantised samples, scaled; d = 1 passes the samples through; and a step keeps d, and the counter below it. Assumes nothing.
+-- From floats to floats: the outputs are the raw outputs of the quantised samples, scaled; d = 1 passes the samples through; and a step keeps d, and the counter below it. Assumes nothing.
 use Prim.Native.Nat.{ℕ, zero, suc, _+_, _-_, _*_, _%_, _≤_, _<_}
 use native.Mathlib.Nat.{mod-one}
 use native.Mathlib.Omega.{arith}
@@ -13,37 +13,33 @@ use Rattle.complex.specs.Complex.{zeroPair}
 use Rattle.complex.specs.declared.Complex32.{Complex32}
 use Rattle.decimator.specs.declared.Counts.{Counts}
 use Rattle.decimator.specs.declared.Decimator.{Decimator}
-use Rattle.decimator.specs.declared.Answer.the-variants.{Silent}
+use Rattle.decimator.specs.declared.RawOutput.the-variants.{Silent}
 use Rattle.decimator.specs.declared.Output.{Output}
 use Rattle.decimator.specs.declared.Output.the-variants.{Nothing, Value}
 use Rattle.decimator.specs.declared.Step.{Step}
-use Rattle.decimator.specs.Decimator.{countsOf, freshOf, scaledOf, absorbedOf, silentOf, soundedOf, advancedOf, answersOf, outputOf, steppedOf, outputsOf}
+use Rattle.decimator.specs.Decimator.{countsOf, freshOf, Counting, scaledOf, absorbedOf, silentOf, soundedOf, advancedOf, rawOutputsOf, outputOf, steppedOf, outputsOf}
 use Rattle.decimator.specs.Demand.{noCounts, ago, demanded}
 use Rattle.decimator.specs.Theorem.{decimates-at, wrappedSums, demanded-sum, demanded-silent, forgets-at}
 
 -- ---- what a step keeps
-pub record Ready (d : ℕ) (s : Decimator) : Type 0 where
-  pub by : s .decimation ≡ d
-  pub early : s .counter < d
-
-pub fresh-ready : (d : ℕ) → 0 < d → Ready d (freshOf d)
+pub fresh-counting : (d : ℕ) → 0 < d → Counting d (freshOf d)
 unfolding freshOf
-fresh-ready d D = record { by = refl; early = D }
+fresh-counting d D = record { by = refl; early = D }
 
-pub advance-ready : (d : ℕ) (s : Decimator) (n : Counts) → Ready d s → Ready d (advancedOf s n .decimator)
+pub advance-counting : (d : ℕ) (s : Decimator) (n : Counts) → Counting d s → Counting d (advancedOf s n .decimator)
 unfolding advancedOf
-advance-ready d s n k =
+advance-counting d s n k =
     let i = absorbedOf (s .integrators) n in
     let D = k .early in
     ⊎-elim
-    (λ l. subst (λ (t : Bool). Ready d (cond t (silentOf s i) (soundedOf s i) .decimator)) (sym (lt-ltb (s .counter + 1) (s .decimation) l)) (record { by = k .by; early = let e = k .by in omega arith }))
-    (λ l. subst (λ (t : Bool). Ready d (cond t (silentOf s i) (soundedOf s i) .decimator)) (sym (le-ltb (s .counter + 1) (s .decimation) l)) (record { by = k .by; early = omega arith }))
+    (λ l. subst (λ (t : Bool). Counting d (cond t (silentOf s i) (soundedOf s i) .decimator)) (sym (lt-ltb (s .counter + 1) (s .decimation) l)) (record { by = k .by; early = let e = k .by in omega arith }))
+    (λ l. subst (λ (t : Bool). Counting d (cond t (silentOf s i) (soundedOf s i) .decimator)) (sym (le-ltb (s .counter + 1) (s .decimation) l)) (record { by = k .by; early = omega arith }))
     (lt-or-ge (s .counter + 1) (s .decimation))
 
 -- ---- a step at d above 1, and at d = 1
 module _ (s : Decimator) (z : Complex32) where
   pub step-above : 1 < s .decimation
-      → _≡_ {A = Step} (steppedOf s z) (record { decimator = advancedOf s (countsOf z) .decimator; output = outputOf (s .decimation) (advancedOf s (countsOf z) .answer) })
+      → _≡_ {A = Step} (steppedOf s z) (record { decimator = advancedOf s (countsOf z) .decimator; output = outputOf (s .decimation) (advancedOf s (countsOf z) .raw) })
   unfolding steppedOf
   step-above l = rw (lt-ltb 1 (s .decimation) l)
 
@@ -51,25 +47,25 @@ module _ (s : Decimator) (z : Complex32) where
   unfolding steppedOf
   step-through l = rw (le-ltb 1 (s .decimation) l)
 
-pub step-ready : (d : ℕ) (s : Decimator) (z : Complex32) → Ready d s → Ready d (steppedOf s z .decimator)
-step-ready d s z k =
+pub step-counting : (d : ℕ) (s : Decimator) (z : Complex32) → Counting d s → Counting d (steppedOf s z .decimator)
+step-counting d s z k =
     ⊎-elim
-    (λ l. subst (λ (t : Step). Ready d (t .decimator)) (sym (step-above s z l)) (advance-ready d s (countsOf z) k))
-    (λ l. subst (λ (t : Step). Ready d (t .decimator)) (sym (step-through s z l)) k)
+    (λ l. subst (λ (t : Step). Counting d (t .decimator)) (sym (step-above s z l)) (advance-counting d s (countsOf z) k))
+    (λ l. subst (λ (t : Step). Counting d (t .decimator)) (sym (step-through s z l)) k)
     (lt-or-ge 1 (s .decimation))
 
-pub stepped-ready : (s : Decimator) (z : Complex32) (r : Step) → s .counter < s .decimation → r ≡ steppedOf s z → Ready (s .decimation) (r .decimator)
-stepped-ready s z r l e = subst (λ (t : Step). Ready (s .decimation) (t .decimator)) (sym e) (step-ready (s .decimation) s z (record { by = refl; early = l }))
+pub stepped-counting : (s : Decimator) (z : Complex32) (r : Step) → s .counter < s .decimation → r ≡ steppedOf s z → Counting (s .decimation) (r .decimator)
+stepped-counting s z r l e = subst (λ (t : Step). Counting (s .decimation) (t .decimator)) (sym e) (step-counting (s .decimation) s z (record { by = refl; early = l }))
 
 -- ---- rows
-pub outputs-above : (d : ℕ) → 1 < d → (s : Decimator) → Ready d s → (zs : List Complex32) → outputsOf s zs ≡ map (outputOf d) (answersOf s (map countsOf zs))
-unfolding outputsOf answersOf
+pub outputs-above : (d : ℕ) → 1 < d → (s : Decimator) → Counting d s → (zs : List Complex32) → outputsOf s zs ≡ map (outputOf d) (rawOutputsOf s (map countsOf zs))
+unfolding outputsOf rawOutputsOf
 outputs-above d D s k [] = refl
 outputs-above d D s k (z ∷ zs) =
     let e = step-above s z (let b = k .by in omega arith) in
     ap₂ {C = List Output} _∷_
-    (ap (λ (t : Step). t .output) e ∙ ap (λ (n : ℕ). outputOf n (advancedOf s (countsOf z) .answer)) (k .by))
-    (ap (λ (t : Step). outputsOf (t .decimator) zs) e ∙ outputs-above d D (advancedOf s (countsOf z) .decimator) (advance-ready d s (countsOf z) k) zs)
+    (ap (λ (t : Step). t .output) e ∙ ap (λ (n : ℕ). outputOf n (advancedOf s (countsOf z) .raw)) (k .by))
+    (ap (λ (t : Step). outputsOf (t .decimator) zs) e ∙ outputs-above d D (advancedOf s (countsOf z) .decimator) (advance-counting d s (countsOf z) k) zs)
 
 pub outputs-through : (s : Decimator) → s .decimation ≤ 1 → (zs : List Complex32) → outputsOf s zs ≡ map Value zs
 unfolding outputsOf
@@ -94,9 +90,9 @@ module _ (d : ℕ) (D : 0 < d) (zs : List Complex32) (n : ℕ) where
   unfolding freshOf
   output-through h l none = ap (λ (os : List Output). getD os n Nothing) (outputs-through (freshOf d) h zs) ∙ map-at Value zs n none Nothing l
 
-  output-above : 1 < d → getD (outputsOf (freshOf d) zs) n Nothing ≡ outputOf d (getD (answersOf (freshOf d) (map countsOf zs)) n Silent)
+  output-above : 1 < d → getD (outputsOf (freshOf d) zs) n Nothing ≡ outputOf d (getD (rawOutputsOf (freshOf d) (map countsOf zs)) n Silent)
   unfolding outputOf
-  output-above h = ap (λ (os : List Output). getD os n Nothing) (outputs-above d h (freshOf d) (fresh-ready d D) zs) ∙ List·getD-map (outputOf d) (answersOf (freshOf d) (map countsOf zs)) n Silent
+  output-above h = ap (λ (os : List Output). getD os n Nothing) (outputs-above d h (freshOf d) (fresh-counting d D) zs) ∙ List·getD-map (outputOf d) (rawOutputsOf (freshOf d) (map countsOf zs)) n Silent
 
   asked : 1 < d → n < length zs → getD (outputsOf (freshOf d) zs) n Nothing ≡ outputOf d (demanded d (map countsOf zs) n)
   asked h l = output-above h ∙ ap (outputOf d) (decimates-at d D (map countsOf zs) n (rw (length-map zs countsOf) l))

@@ -1,11 +1,12 @@
 // The decimator: three integrators at the input's rate and three combs at the d-th part of it, all
 // modulo 2^64, for both parts of a sample with one counter. A sum that leaves the 64 bits on the way
-// comes back into them: specs/Theorem.antt.
+// comes back into them: specs/Theorem.antt. The receiver runs `gathered` for each sample and `decimate`
+// at every d-th; tests take the same steps sample by sample with `stepped`.
 ghost use mathlib.Core.Path.{_≡_};
 ghost use Prim.Native.Nat.{_<_};
 ghost use lib.Ieee.{binary64, ofInt};
-ghost use Rattle.decimator.specs.Decimator.{freshOf, countsOf, integratedOf, combedOf, absorbedOf, releasedOf, soundedOf, advancedOf, scaleOf, scaledOf, decimatedOf, outputOf, steppedOf};
-ghost use Rattle.decimator.specs.Values.{Ready};
+ghost use Rattle.decimator.specs.Decimator.{freshOf, admittedOf, Counting, countsOf};
+ghost use Rattle.decimator.specs.Decimator.{integratedOf, combedOf, absorbedOf, releasedOf, soundedOf, advancedOf, scaleOf, scaledOf, decimatedOf, outputOf, steppedOf};
 use complex::Complex32;
 use numbers::bits::signed;
 use numbers::bits::unsigned;
@@ -16,6 +17,9 @@ use std::num::wrapping_add_u64;
 use std::num::wrapping_sub_u64;
 
 mod quantiser;
+
+// The largest decimation: that of 20,000,000 samples a second.
+const MOST: usize = 78;
 
 // The integrators of one part.
 pub struct Sums {
@@ -47,7 +51,8 @@ pub struct Counts {
     pub imaginary: i64,
 }
 
-// `counter` samples have come since the last output.
+// One output for `decimation` samples, 1 to 78; `counter` of them, fewer than that, have come since the
+// last output.
 pub struct Decimator {
     pub decimation: usize,
     pub counter: usize,
@@ -61,8 +66,8 @@ pub struct Difference {
     pub value: i64,
 }
 
-// Both combs' sums at every d-th sample, and nothing between.
-pub enum Answer {
+// An output before it is scaled: both combs' sums at every d-th sample, and nothing between.
+pub enum RawOutput {
     Silent,
     Sum(Counts),
 }
@@ -73,9 +78,10 @@ pub struct Release {
     pub sum: Counts,
 }
 
+// The decimator after a sample, and its output before it is scaled.
 pub struct Advance {
     pub decimator: Decimator,
-    pub answer: Answer,
+    pub raw: RawOutput,
 }
 
 // A decimated value, or none yet.
@@ -90,11 +96,13 @@ pub struct Decimated {
     pub value: Complex32,
 }
 
+// The decimator after a sample, and its output.
 pub struct Step {
     pub decimator: Decimator,
     pub output: Output,
 }
 
+// Nothing has come in: every sum and delay is 0.
 pub fn fresh(decimation: usize) -> Decimator
     ensures { λ r. ⌜ r ≡ freshOf decimation ⌝ }
 {
@@ -122,6 +130,14 @@ pub fn fresh(decimation: usize) -> Decimator
     }
 }
 
+// Whether this decimator may be run, be it from a setup or handed in.
+pub fn is_admitted(d: Decimator) -> bool
+    ensures { λ b. ⌜ b ≡ admittedOf d ⌝ }
+{
+    (d.decimation >= 1) & ((d.decimation <= MOST) & (d.counter < d.decimation))
+}
+
+// The three integrators of one part after a number: each sum takes in the one before it.
 fn integrated(s: Sums, n: i64) -> Sums
     ensures { λ r. ⌜ r ≡ integratedOf s n ⌝ }
 {
@@ -135,6 +151,7 @@ fn integrated(s: Sums, n: i64) -> Sums
     }
 }
 
+// The three combs of one part at an output: each takes off what it met at the output before.
 fn combed(y: Delays, sum: u64) -> Difference
     ensures { λ r. ⌜ r ≡ combedOf y sum ⌝ }
 {
@@ -151,6 +168,7 @@ fn combed(y: Delays, sum: u64) -> Difference
     }
 }
 
+// Both parts of a sample as whole numbers.
 fn counted(z: Complex32) -> Counts
     ensures { λ r. ⌜ r ≡ countsOf z ⌝ }
 {
@@ -160,6 +178,7 @@ fn counted(z: Complex32) -> Counts
     }
 }
 
+// Both parts' integrators after a sample in whole numbers.
 fn absorbed(s: Integrators, n: Counts) -> Integrators
     ensures { λ r. ⌜ r ≡ absorbedOf s n ⌝ }
 {
@@ -200,6 +219,7 @@ fn released(d: Decimator, s: Integrators) -> Release
     }
 }
 
+// The same as an `Advance`. Only `advanced` calls it, for tests.
 fn sounded(d: Decimator, s: Integrators) -> Advance
     ensures { λ r. ⌜ r ≡ soundedOf d s ⌝ }
 {
@@ -208,11 +228,11 @@ fn sounded(d: Decimator, s: Integrators) -> Advance
     let sum = r.sum;
     Advance {
         decimator,
-        answer: Answer::Sum(sum),
+        raw: RawOutput::Sum(sum),
     }
 }
 
-// One sample in whole numbers.
+// One sample in whole numbers. Only `stepped` calls it, for tests.
 fn advanced(d: Decimator, n: Counts) -> Advance
     requires { ⌜ d .counter < d .decimation ⌝ }
     ensures { λ r. ⌜ r ≡ advancedOf d n ⌝ }
@@ -228,7 +248,7 @@ fn advanced(d: Decimator, n: Counts) -> Advance
                 integrators: s,
                 combs,
             },
-            answer: Answer::Silent,
+            raw: RawOutput::Silent,
         }
     } else {
         sounded(d, s)
@@ -246,6 +266,7 @@ fn float(n: i64) -> f64
     }
 }
 
+// 1 / (32,768 d d d): the weights of a sum of 3d - 2 samples add up to d d d.
 fn scale(decimation: usize) -> f64
     ensures { λ r. ⌜ r ≡ scaleOf decimation ⌝ }
 {
@@ -253,6 +274,7 @@ fn scale(decimation: usize) -> f64
     1.0 / (32768.0 * d * d * d)
 }
 
+// Sums as a sample again: scaled in f64, and rounded to f32 once.
 fn scaled(decimation: usize, n: Counts) -> Complex32
     ensures { λ r. ⌜ r ≡ scaledOf decimation n ⌝ }
 {
@@ -263,12 +285,13 @@ fn scaled(decimation: usize, n: Counts) -> Complex32
     }
 }
 
-fn delivered(decimation: usize, a: Answer) -> Output
-    ensures { λ r. ⌜ r ≡ outputOf decimation a ⌝ }
+// The output, scaled. Only `stepped` calls it, for tests.
+fn delivered(decimation: usize, raw: RawOutput) -> Output
+    ensures { λ r. ⌜ r ≡ outputOf decimation raw ⌝ }
 {
-    match a {
-        Answer::Silent => Output::Nothing,
-        Answer::Sum(n) => Output::Value(scaled(decimation, n)),
+    match raw {
+        RawOutput::Silent => Output::Nothing,
+        RawOutput::Sum(n) => Output::Value(scaled(decimation, n)),
     }
 }
 
@@ -291,17 +314,18 @@ pub fn decimate(d: Decimator, s: Integrators) -> Decimated
     Decimated { decimator, value }
 }
 
-// One sample. d = 1 passes it through.
+// One sample, as the definition takes it: d = 1 passes it through. Only tests call it; the receiver
+// takes a run of samples at once, and the crate `front` proves that this makes the same of them.
 pub fn stepped(d: Decimator, z: Complex32) -> Step
     requires { ⌜ d .counter < d .decimation ⌝ }
     ensures same { λ r. ⌜ r ≡ steppedOf d z ⌝ }
-    ensures ready { λ r. ⌜ Ready (d .decimation) (r .decimator) ⌝ }
+    ensures kept { λ r. ⌜ Counting (d .decimation) (r .decimator) ⌝ }
 {
     if d.decimation > 1 {
         let a = advanced(d, counted(z));
         let decimator = a.decimator;
-        let answer = a.answer;
-        let output = delivered(d.decimation, answer);
+        let raw = a.raw;
+        let output = delivered(d.decimation, raw);
         Step { decimator, output }
     } else {
         Step {

@@ -10,13 +10,13 @@ use lib.Ieee.{Float}
 use borrow.Author.Tests.{lt-ltb, le-ltb}
 use Rattle.laws.specs.Turns.{turns, until, until-turn, until-none, until-stop}
 use Rattle.decimator.specs.declared.Output.the-variants.{Nothing}
-use Rattle.resampler.specs.Front.{hearing, heard}
+use Rattle.front.specs.Resample.{resampleState, resampleValues}
 use Rattle.front.specs.declared.FrontPlace.{FrontPlace}
 use Rattle.front.specs.declared.Drawn.{Drawn}
 use Rattle.front.specs.declared.Fronted.{Fronted}
 use Rattle.front.specs.declared.Offering.{Offering}
 use Rattle.front.specs.Front.{frontStep, ringOf, rungOf, Front, laidOf, tookOf, isFull, filledOf, frontNow, startOf, runOf, drawnOf, Offered, offeredOf, offeredNow, advancedWith, advancedOf}
-use Rattle.front.specs.Ready.{Ready, Numbers, Next, Drew, Offer, Moved, Going, Kept}
+use Rattle.front.specs.Admitted.{Admitted, Numbers, Next, Drew, Offer, Moved, Going, CallKeeps}
 use Rattle.front.specs.Runs.{drew, run-is, quiet, drawn-kept}
 use Rattle.front.specs.Laws.{offered-none}
 
@@ -24,7 +24,7 @@ module _ (conjugated : Bool) (table xs : List Float) where
   abbrev pub took : Front → Front
   took = tookOf conjugated table xs
 
-  module _ (f : Front) (r : Ready (f .rung .place)) where
+  module _ (f : Front) (r : Admitted (f .rung .place)) where
     abbrev place : FrontPlace
     place = f .rung .place
 
@@ -48,8 +48,8 @@ module _ (conjugated : Bool) (table xs : List Float) where
     took-on : (k : ℕ) → took (ahead k) ≡ drawnOn (after (suc k))
     unfolding tookOf frontStep turns
     took-on k = let e : f .at + k + 1 ≡ f .at + (k + 1) = omega arith in λ i. record {
-      rung = rungOf (after (suc k) .oscillator) (after (suc k) .decimator) (hearing table (ringOf (f .rung)) (after (suc k) .output));
-      row = laidOf (heard table (ringOf (f .rung)) (after (suc k) .output)) (f .row);
+      rung = rungOf (after (suc k) .oscillator) (after (suc k) .decimator) (resampleState table (ringOf (f .rung)) (after (suc k) .output));
+      row = laidOf (resampleValues table (ringOf (f .rung)) (after (suc k) .output)) (f .row);
       at = e i;
     }
 
@@ -98,7 +98,7 @@ module _ (conjugated : Bool) (table xs : List Float) where
 
 -- a call that has made a run has the same to do as before it; and nothing once the samples end or the row is full
 module _ (conjugated : Bool) (table xs : List Float) (f : Front) where
-  pub filled-on : (g : Front) → Ready (f .rung .place) → f .row .made ≤ 254 → f .at < length xs / 2 → g ≡ advancedOf conjugated table xs f → filledOf conjugated table xs g ≡ filledOf conjugated table xs f
+  pub filled-on : (g : Front) → Admitted (f .rung .place) → f .row .made ≤ 254 → f .at < length xs / 2 → g ≡ advancedOf conjugated table xs f → filledOf conjugated table xs g ≡ filledOf conjugated table xs f
   unfolding filledOf
   filled-on g r room more e = ap (λ (h : Front). until isFull (tookOf conjugated table xs) (length xs / 2 - h .at) h) e ∙ sym (advances conjugated table xs f r room more)
 
@@ -132,17 +132,22 @@ advance-is conjugated table xs t from ringReal ringImaginary rowReal rowImaginar
     ∙ advanced-is conjugated table xs (frontNow t from ringReal ringImaginary rowReal rowImaginary) q (offeredNow l nextReal nextImaginary laidReal laidImaginary) qe ge
 
 -- ---- what a turn keeps
-pub moved-is : (t : Fronted) (left : ℕ) (q : Drawn) (l : Offering) → Ready (t .place) → 0 < left → Drew left (t .place) q → Offer (t .place .resampler) (t .made) l
+pub moved-is : (t : Fronted) (left : ℕ) (q : Drawn) (l : Offering) → Admitted (t .place) → 0 < left → Drew left (t .place) q → Offer (t .place .resampler) (t .made) l
     → Moved left t (record { place = record { oscillator = q .oscillator; decimator = q .decimator; resampler = l .resampler }; used = t .used + q .run; made = l .made })
 moved-is t left q l k s d o =
     let c = o .index-low in
     let e = o .index in
     let g = d .some s in
     let h = d .decimation in
-    let i = k .slow in
+    let i = k .decimator .decimation-high in
+    let j = d .early in
     record {
       next = record {
-        ready = record { turns = d .turns; early = d .early; slow = omega arith; ring = o .ready };
+        admitted = record {
+          oscillator = record { renormalize-in = d .turns };
+          decimator = record { decimation-low = omega arith; decimation-high = omega arith; counter-in = d .early };
+          resampler = o .admitted;
+        };
         index-low = c;
         index = omega arith;
         arm = o .arm;
@@ -156,8 +161,8 @@ moved-is t left q l k s d o =
 pub left-some : (at end : ℕ) → at < end → 0 < end - at
 left-some at end l = omega arith
 
-pub next-none : (n : ℕ) (p : FrontPlace) → Ready p → Next n p p
-next-none n p r = record { ready = r; index-low = omega arith; index = omega arith; arm = refl; decimation = refl }
+pub next-none : (n : ℕ) (p : FrontPlace) → Admitted p → Next n p p
+next-none n p r = record { admitted = r; index-low = omega arith; index = omega arith; arm = refl; decimation = refl }
 
 pub next-on : (n m k : ℕ) (p q r : FrontPlace) → n + m ≤ k → Next n p q → Next m q r → Next k p r
 next-on n m k p q r l a b =
@@ -165,10 +170,10 @@ next-on n m k p q r l a b =
     let d = a .index in
     let e = b .index-low in
     let g = b .index in
-    record { ready = b .ready; index-low = omega arith; index = omega arith; arm = b .arm ∙ a .arm; decimation = b .decimation ∙ a .decimation }
+    record { admitted = b .admitted; index-low = omega arith; index = omega arith; arm = b .arm ∙ a .arm; decimation = b .decimation ∙ a .decimation }
 
 -- what a call has kept so far, and once more
-pub kept-start : (left : ℕ) (p : FrontPlace) → Ready p → Going left p (startOf p)
+pub kept-start : (left : ℕ) (p : FrontPlace) → Admitted p → Going left p (startOf p)
 kept-start left p r = record { next = next-none 0 p r; most = omega arith; room = omega arith; few = omega arith }
 
 pub kept-on : (left from end : ℕ) (p : FrontPlace) (t r : Fronted) → left ≡ end - from → from + t .used < end → t .made ≤ 254 → Going left p t → Moved (end - (from + t .used)) t r → Going left p r
@@ -181,15 +186,15 @@ kept-on left from end p t r le l m k v =
 
 pub advance-asks : (p : FrontPlace) (t : Fronted) (xs : List Float) (left from end size : ℕ) → Going left p t → Numbers xs → left ≡ end - from → end ≡ length xs / 2 → from + t .used < end
     → p .resampler .index + left ≤ 2 ^ 52 → 32 * p .resampler .arm ≤ size → t .made ≤ 254
-    → Ready (t .place) × (Numbers xs × ((32 * t .place .resampler .arm ≤ size) × ((t .place .resampler .index < 2 ^ 52) × ((t .made ≤ 254) × (from + t .used < length xs / 2)))))
+    → Admitted (t .place) × (Numbers xs × ((32 * t .place .resampler .arm ≤ size) × ((t .place .resampler .index < 2 ^ 52) × ((t .made ≤ 254) × (from + t .used < length xs / 2)))))
 advance-asks p t xs left from end size k n le ee l i s m =
     let a = k .next .index in
     let b = k .next .arm in
-    (k .next .ready, (n, (omega arith, (omega arith, (m, omega arith)))))
+    (k .next .admitted, (n, (omega arith, (omega arith, (m, omega arith)))))
 
 -- it ends with the samples, or with the row
-pub kept-end : (left : ℕ) (p : FrontPlace) (t : Fronted) → Going left p t → left ≤ t .used → Kept left p t
+pub kept-end : (left : ℕ) (p : FrontPlace) (t : Fronted) → Going left p t → left ≤ t .used → CallKeeps left p t
 kept-end left p t k l = record { next = k .next; most = k .most; some = λ h. omega arith; room = k .room; few = k .few }
 
-pub kept-full : (left : ℕ) (p : FrontPlace) (t : Fronted) → Going left p t → 254 < t .made → Kept left p t
+pub kept-full : (left : ℕ) (p : FrontPlace) (t : Fronted) → Going left p t → 254 < t .made → CallKeeps left p t
 kept-full left p t k l = record { next = k .next; most = k .most; some = λ h. (let f = k .few in omega arith); room = k .room; few = k .few }

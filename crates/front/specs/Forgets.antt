@@ -21,22 +21,21 @@ use Rattle.oscillator.specs.Oscillator.{turnedOf, mixedOf}
 use Rattle.decimator.specs.declared.Decimator.{Decimator}
 use Rattle.decimator.specs.declared.Integrators.{Integrators}
 use Rattle.decimator.specs.declared.Advance.{Advance}
-use Rattle.decimator.specs.declared.Answer.{Answer}
-use Rattle.decimator.specs.declared.Answer.the-variants.{Silent, Sum}
+use Rattle.decimator.specs.declared.RawOutput.{RawOutput}
+use Rattle.decimator.specs.declared.RawOutput.the-variants.{Silent, Sum}
 use Rattle.decimator.specs.declared.Output.{Output}
 use Rattle.decimator.specs.declared.Output.the-variants.{Nothing, Value}
 use Rattle.decimator.specs.declared.Step.{Step}
-use Rattle.decimator.specs.Decimator.{countsOf, scaledOf, absorbedOf, silentOf, soundedOf, releasedOf, advancedOf, answersOf, outputOf, steppedOf, outputsOf}
+use Rattle.decimator.specs.Decimator.{Counting, countsOf, scaledOf, absorbedOf, silentOf, soundedOf, releasedOf, advancedOf, rawOutputsOf, outputOf, steppedOf, outputsOf}
 use Rattle.decimator.specs.Demand.{wrapped, sumsAt}
 use Rattle.decimator.specs.Part.{Words}
 use Rattle.decimator.specs.Theorem.{recovers}
-use Rattle.decimator.specs.Values.{step-above, step-through, step-ready, outputs-above}
-use Rattle.decimator.specs.Values.{Ready as ReadyBy}
-use Rattle.resampler.specs.Front.{Heard, hearing, heard}
+use Rattle.decimator.specs.Values.{step-above, step-through, step-counting, outputs-above}
+use Rattle.front.specs.Resample.{ResamplerState, resampleState, resampleValues}
 use Rattle.resampler.specs.Pass.{resampledOf}
-use Rattle.resampler.specs.Forgets.{Like, like-other, like-more, heard-same}
+use Rattle.front.specs.FiltersForget.{Like, like-other, like-more, values-same}
 use Rattle.front.specs.Front.{sampleAt, Rung, Run, ringOf, frontStep, more, frontOf, rungAt, madeOf, reachOf}
-use Rattle.front.specs.Ready.{Ready}
+use Rattle.front.specs.Admitted.{Admitted}
 
 -- ---- a decimator: when it sounds, and its counter
 pub record Quiet (u : Decimator) (z : Complex32) : Type 0 where
@@ -53,7 +52,7 @@ module _ (u : Decimator) (z : Complex32) where
   sums = absorbedOf (u .integrators) (countsOf z)
 
   abbrev finished : Bool → Step
-  finished b = let a : Advance = cond b (silentOf u sums) (soundedOf u sums) in record { decimator = a .decimator; output = outputOf (u .decimation) (a .answer) }
+  finished b = let a : Advance = cond b (silentOf u sums) (soundedOf u sums) in record { decimator = a .decimator; output = outputOf (u .decimation) (a .raw) }
 
   above : (b : Bool) → 1 < u .decimation → ltb (u .counter + 1) (u .decimation) ≡ b → steppedOf u z ≡ finished b
   unfolding advancedOf
@@ -83,10 +82,10 @@ module _ (z : ℕ → Complex32) where
   decAt s zero = s
   decAt s (suc n) = steppedOf (decAt s n) (z n) .decimator
 
-  ready-at : (d : ℕ) (s : Decimator) (n : ℕ) → ReadyBy d s → ReadyBy d (decAt s n)
+  counting-at : (d : ℕ) (s : Decimator) (n : ℕ) → Counting d s → Counting d (decAt s n)
   unfolding decAt
-  ready-at d s zero k = k
-  ready-at d s (suc n) k = step-ready d (decAt s n) (z n) (ready-at d s n k)
+  counting-at d s zero k = k
+  counting-at d s (suc n) k = step-counting d (decAt s n) (z n) (counting-at d s n k)
 
 -- the decimator after a list
 unfoldable decOver : Decimator → List Complex32 → Decimator
@@ -126,7 +125,7 @@ module _ (z : ℕ → Complex32) where
       short = rw (length-map zs countsOf, length-upto z (suc n)) (omega arith)
 
       -- what `recovers` says of both
-      both : _≡_ {A = Answer}
+      both : _≡_ {A = RawOutput}
           (cond (eqb ((s .counter + n + 1) % s .decimation) 0) (Sum (record { real = wrapped (sumsAt (s .decimation) (map countsOf zs) n .real); imaginary = wrapped (sumsAt (s .decimation) (map countsOf zs) n .imaginary) })) Silent)
           (cond (eqb ((t .counter + n + 1) % t .decimation) 0) (Sum (record { real = wrapped (sumsAt (t .decimation) (map countsOf zs) n .real); imaginary = wrapped (sumsAt (t .decimation) (map countsOf zs) n .imaginary) })) Silent)
       both = λ i. cond (eqb ((f i + n + 1) % e i) 0) (Sum (record { real = wrapped (sumsAt (e i) (map countsOf zs) n .real); imaginary = wrapped (sumsAt (e i) (map countsOf zs) n .imaginary) })) Silent
@@ -137,9 +136,9 @@ module _ (z : ℕ → Complex32) where
       same-above sr si tr ti D l =
           output-at s n
           ∙ ap (λ (os : List Output). getD os n Nothing) (outputs-above (s .decimation) D s (record { by = refl; early = k }) zs)
-          ∙ List·getD-map (outputOf (s .decimation)) (answersOf s (map countsOf zs)) n Silent
+          ∙ List·getD-map (outputOf (s .decimation)) (rawOutputsOf s (map countsOf zs)) n Silent
           ∙ ap (outputOf (s .decimation)) (recovers s sr si k (map countsOf zs) n short l ∙ both ∙ sym (recovers t tr ti (omega arith) (map countsOf zs) n short (omega arith)))
-          ∙ sym (List·getD-map (outputOf (s .decimation)) (answersOf t (map countsOf zs)) n Silent)
+          ∙ sym (List·getD-map (outputOf (s .decimation)) (rawOutputsOf t (map countsOf zs)) n Silent)
           ∙ ap (λ (os : List Output). getD os n Nothing) (sym (outputs-above (s .decimation) D t (record { by = sym e; early = omega arith }) zs))
           ∙ sym (output-at t n)
 
@@ -178,13 +177,13 @@ module _ (conjugated : Bool) (table xs : List Float) where
   abbrev counterAt : Rung → ℕ → ℕ
   counterAt r n = decAt (mixAt (r .place .oscillator)) (r .place .decimator) n .counter
 
-  walk-ring : (r : Rung) (n : ℕ) → ringOf (walk r (suc n)) ≡ hearing table (ringOf (walk r n)) (outputAt r n)
+  walk-ring : (r : Rung) (n : ℕ) → ringOf (walk r (suc n)) ≡ resampleState table (ringOf (walk r n)) (outputAt r n)
   unfolding walk frontStep
-  walk-ring r n = λ i. hearing table (ringOf (walk r n)) (steppedOf (walk-dec r n i) (mixedOf (walk-osc r n i) (sampleAt xs n) conjugated) .output)
+  walk-ring r n = λ i. resampleState table (ringOf (walk r n)) (steppedOf (walk-dec r n i) (mixedOf (walk-osc r n i) (sampleAt xs n) conjugated) .output)
 
-  walk-values : (r : Rung) (n : ℕ) → frontStep conjugated table (walk r n) (sampleAt xs n) .values ≡ heard table (ringOf (walk r n)) (outputAt r n)
+  walk-values : (r : Rung) (n : ℕ) → frontStep conjugated table (walk r n) (sampleAt xs n) .values ≡ resampleValues table (ringOf (walk r n)) (outputAt r n)
   unfolding frontStep
-  walk-values r n = λ i. heard table (ringOf (walk r n)) (steppedOf (walk-dec r n i) (mixedOf (walk-osc r n i) (sampleAt xs n) conjugated) .output)
+  walk-values r n = λ i. resampleValues table (ringOf (walk r n)) (steppedOf (walk-dec r n i) (mixedOf (walk-osc r n i) (sampleAt xs n) conjugated) .output)
 
 -- ---- two fronts of one rate, with the same oscillator and counts; what they hold may differ
 pub record Alike (a b : Rung) : Type 0 where
@@ -192,7 +191,7 @@ pub record Alike (a b : Rung) : Type 0 where
   pub decimation : a .place .decimator .decimation ≡ b .place .decimator .decimation
   pub counter : a .place .decimator .counter ≡ b .place .decimator .counter
   pub resampler : a .place .resampler ≡ b .place .resampler
-  pub ready : Ready (a .place)
+  pub admitted : Admitted (a .place)
   pub real-a : a .place .resampler .arm + 16 ≤ length (a .real)
   pub imaginary-a : a .place .resampler .arm + 16 ≤ length (a .imaginary)
   pub real-b : a .place .resampler .arm + 16 ≤ length (b .real)
@@ -206,21 +205,21 @@ pub record Alike (a b : Rung) : Type 0 where
 one-value : (o p : Output) (v w : Complex32) → o ≡ Value v → p ≡ Value w → o ≡ p → v ≡ w
 one-value o p v w e f s = cc
 
-arm-kept : (table : List Float) (h : Heard) (o : Output) → hearing table h o .resampler .arm ≡ h .resampler .arm
-unfolding hearing
+arm-kept : (table : List Float) (h : ResamplerState) (o : Output) → resampleState table h o .resampler .arm ≡ h .resampler .arm
+unfolding resampleState
 arm-kept table h Nothing = refl
 arm-kept table h (Value v) = unfold resampledOf in refl
 
-hears-nothing : (table : List Float) (h : Heard) (o : Output) → o ≡ Nothing → hearing table h o ≡ h
-unfolding hearing
-hears-nothing table h o e = ap (hearing table h) e
+hears-nothing : (table : List Float) (h : ResamplerState) (o : Output) → o ≡ Nothing → resampleState table h o ≡ h
+unfolding resampleState
+hears-nothing table h o e = ap (resampleState table h) e
 
-heard-nothing : (table : List Float) (h : Heard) (o : Output) → o ≡ Nothing → heard table h o ≡ []
-unfolding heard
-heard-nothing table h o e = ap (heard table h) e
+heard-nothing : (table : List Float) (h : ResamplerState) (o : Output) → o ≡ Nothing → resampleValues table h o ≡ []
+unfolding resampleValues
+heard-nothing table h o e = ap (resampleValues table h) e
 
-like-of : (k : ℕ) (a b c d : Heard) → a ≡ c → b ≡ d → Like k c d → Like k a b
-like-of k a b c d e f l = subst (λ (h : Heard). Like k h b) (sym e) (subst (λ (h : Heard). Like k c h) (sym f) l)
+like-of : (k : ℕ) (a b c d : ResamplerState) → a ≡ c → b ≡ d → Like k c d → Like k a b
+like-of k a b c d e f l = subst (λ (h : ResamplerState). Like k h b) (sym e) (subst (λ (h : ResamplerState). Like k c h) (sym f) l)
 
 module _ (conjugated : Bool) (table xs : List Float) (a b : Rung) (l : Alike a b) where
   abbrev d : ℕ
@@ -232,10 +231,10 @@ module _ (conjugated : Bool) (table xs : List Float) (a b : Rung) (l : Alike a b
   abbrev since : ℕ
   since = a .place .decimator .counter
 
-  abbrev ra : ℕ → Heard
+  abbrev ra : ℕ → ResamplerState
   ra n = ringOf (walk conjugated table xs a n)
 
-  abbrev rb : ℕ → Heard
+  abbrev rb : ℕ → ResamplerState
   rb n = ringOf (walk conjugated table xs b n)
 
   abbrev oa : ℕ → Output
@@ -250,15 +249,15 @@ module _ (conjugated : Bool) (table xs : List Float) (a b : Rung) (l : Alike a b
   abbrev db : ℕ → Decimator
   db n = decAt (mixAt conjugated table xs (b .place .oscillator)) (b .place .decimator) n
 
-  ready-a : (n : ℕ) → ReadyBy d (da n)
-  ready-a n = ready-at (mixAt conjugated table xs (a .place .oscillator)) d (a .place .decimator) n (record { by = refl; early = l .ready .early })
+  counting-a : (n : ℕ) → Counting d (da n)
+  counting-a n = counting-at (mixAt conjugated table xs (a .place .oscillator)) d (a .place .decimator) n (record { by = refl; early = l .admitted .decimator .counter-in })
 
-  ready-b : (n : ℕ) → ReadyBy d (db n)
-  ready-b n =
+  counting-b : (n : ℕ) → Counting d (db n)
+  counting-b n =
       let e = l .decimation in
       let f = l .counter in
-      let k = l .ready .early in
-      ready-at (mixAt conjugated table xs (b .place .oscillator)) d (b .place .decimator) n (record { by = sym e; early = omega arith })
+      let k = l .admitted .decimator .counter-in in
+      counting-at (mixAt conjugated table xs (b .place .oscillator)) d (b .place .decimator) n (record { by = sym e; early = omega arith })
 
   -- m outputs are not to be trusted
   module _ (m : ℕ) (trusted : (n : ℕ) → (m + 1) * d ≤ since + n + 1 → oa n ≡ ob n) where
@@ -275,7 +274,7 @@ module _ (conjugated : Bool) (table xs : List Float) (a b : Rung) (l : Alike a b
     begin =
         let z : Like 0 (ringOf a) (ringOf b) = record {
           same = l .resampler;
-          planes = record { inside = l .ready .ring .write-in; room-xs = l .real-a; room-ys = l .imaginary-a; room-us = l .real-b; room-vs = l .imaginary-b; real-same = refl; imaginary-same = refl };
+          planes = record { inside = l .admitted .resampler .write-in; room-xs = l .real-a; room-ys = l .imaginary-a; room-us = l .real-b; room-vs = l .imaginary-b; real-same = refl; imaginary-same = refl };
         } in
         record {
           counts = omega arith;
@@ -288,8 +287,8 @@ module _ (conjugated : Bool) (table xs : List Float) (a b : Rung) (l : Alike a b
     quietly : (n q : ℕ) → Apart n q → da n .counter + 1 < d → Apart (suc n) q
     unfolding decAt
     quietly n q p s =
-        let u = ready-a n .by in
-        let v = ready-b n .by in
+        let u = counting-a n .by in
+        let v = counting-b n .by in
         let e = p .counter in
         let x = is-quiet (da n) (mixAt conjugated table xs (a .place .oscillator) n) (omega arith) in
         let y = is-quiet (db n) (mixAt conjugated table xs (b .place .oscillator) n) (omega arith) in
@@ -299,7 +298,7 @@ module _ (conjugated : Bool) (table xs : List Float) (a b : Rung) (l : Alike a b
         record {
           counts = (let h : since + suc n ≡ q * d + (da n .counter + 1) = omega arith in h) ∙ ap (λ (j : ℕ). q * d + j) (sym (x .later));
           counter = x .later ∙ ap (λ (j : ℕ). j + 1) e ∙ sym (y .later);
-          armed = ap (λ (h : Heard). h .resampler .arm) f ∙ p .armed;
+          armed = ap (λ (h : ResamplerState). h .resampler .arm) f ∙ p .armed;
           start = like-of 0 (ra (suc n)) (rb (suc n)) (ra n) (rb n) f g (p .start);
           near = λ k h i. like-of k (ra (suc n)) (rb (suc n)) (ra n) (rb n) f g (p .near k h i);
         }
@@ -309,20 +308,20 @@ module _ (conjugated : Bool) (table xs : List Float) (a b : Rung) (l : Alike a b
       whole : since + n + 1 ≡ (q + 1) * d
       whole =
           let t = p .counts in
-          let u = ready-a n .early in
+          let u = counting-a n .early in
           let e : (q + 1) * d ≡ q * d + d = add-mul q 1 d ∙ ap (λ (j : ℕ). q * d + j) (one-mul d) in
           omega arith
 
       loud-a : Loud (da n) (mixAt conjugated table xs (a .place .oscillator) n)
       loud-a =
-          let u = ready-a n .by in
-          let v = ready-a n .early in
+          let u = counting-a n .by in
+          let v = counting-a n .early in
           is-loud (da n) (mixAt conjugated table xs (a .place .oscillator) n) (omega arith) (omega arith)
 
       loud-b : Loud (db n) (mixAt conjugated table xs (b .place .oscillator) n)
       loud-b =
-          let u = ready-b n .by in
-          let v = ready-b n .early in
+          let u = counting-b n .by in
+          let v = counting-b n .early in
           let e = p .counter in
           is-loud (db n) (mixAt conjugated table xs (b .place .oscillator) n) (omega arith) (omega arith)
 
@@ -335,21 +334,21 @@ module _ (conjugated : Bool) (table xs : List Float) (a b : Rung) (l : Alike a b
       same-value : m ≤ q → va ≡ vb
       same-value h = one-value (oa n) (ob n) va vb (loud-a .sounds) (loud-b .sounds) (trusted n (subst (λ (j : ℕ). (m + 1) * d ≤ j) (sym whole) (mul-le-mul-right d (let g : m + 1 ≤ q + 1 = omega arith in g))))
 
-      heard-a : ra (suc n) ≡ hearing table (ra n) (Value va)
-      heard-a = walk-ring conjugated table xs a n ∙ ap (hearing table (ra n)) (loud-a .sounds)
+      heard-a : ra (suc n) ≡ resampleState table (ra n) (Value va)
+      heard-a = walk-ring conjugated table xs a n ∙ ap (resampleState table (ra n)) (loud-a .sounds)
 
-      heard-b : rb (suc n) ≡ hearing table (rb n) (Value vb)
-      heard-b = walk-ring conjugated table xs b n ∙ ap (hearing table (rb n)) (loud-b .sounds)
+      heard-b : rb (suc n) ≡ resampleState table (rb n) (Value vb)
+      heard-b = walk-ring conjugated table xs b n ∙ ap (resampleState table (rb n)) (loud-b .sounds)
 
       first : Like 0 (ra (suc n)) (rb (suc n))
-      first = like-of 0 (ra (suc n)) (rb (suc n)) (hearing table (ra n) (Value va)) (hearing table (rb n) (Value vb)) heard-a heard-b (like-other table 0 (ra n) (rb n) (p .start) va vb)
+      first = like-of 0 (ra (suc n)) (rb (suc n)) (resampleState table (ra n) (Value va)) (resampleState table (rb n) (Value vb)) heard-a heard-b (like-other table 0 (ra n) (rb n) (p .start) va vb)
 
       closer : (k : ℕ) → k ≤ c → k + m ≤ q + 1 → Like k (ra (suc n)) (rb (suc n))
       closer zero h i = first
       closer (suc k) h i =
           let e = p .armed in
           subst (λ (j : ℕ). Like j (ra (suc n)) (rb (suc n))) (add-one k)
-          (like-of (k + 1) (ra (suc n)) (rb (suc n)) (hearing table (ra n) (Value va)) (hearing table (rb n) (Value vb)) heard-a heard-b
+          (like-of (k + 1) (ra (suc n)) (rb (suc n)) (resampleState table (ra n) (Value va)) (resampleState table (rb n) (Value vb)) heard-a heard-b
           (like-more table k (ra n) (rb n) (p .near k (omega arith) (omega arith)) va vb (omega arith) (same-value (omega arith))))
 
       loudly : Apart (suc n) (q + 1)
@@ -357,20 +356,20 @@ module _ (conjugated : Bool) (table xs : List Float) (a b : Rung) (l : Alike a b
       loudly = record {
         counts = (let t = whole in let h : since + suc n ≡ (q + 1) * d + 0 = omega arith in h) ∙ ap (λ (j : ℕ). (q + 1) * d + j) (sym (loud-a .anew));
         counter = loud-a .anew ∙ sym (loud-b .anew);
-        armed = ap (λ (h : Heard). h .resampler .arm) heard-a ∙ arm-kept table (ra n) (Value va) ∙ p .armed;
+        armed = ap (λ (h : ResamplerState). h .resampler .arm) heard-a ∙ arm-kept table (ra n) (Value va) ∙ p .armed;
         start = first;
         near = closer;
       }
 
       -- the values that sample n makes, once the whole window is trusted
-      values-loud : (c + m) * d ≤ since + n + 1 → heard table (ra n) (oa n) ≡ heard table (rb n) (ob n)
+      values-loud : (c + m) * d ≤ since + n + 1 → resampleValues table (ra n) (oa n) ≡ resampleValues table (rb n) (ob n)
       values-loud h =
           let e = p .armed in
-          let w = l .ready .ring .arm-low in
-          let g : c + m ≤ q + 1 = le-of-mul-le-mul-right (subst (λ (j : ℕ). (c + m) * d ≤ j) whole h) (let u = l .ready .early in let v : 0 < d = omega arith in v) in
-          ap (heard table (ra n)) (loud-a .sounds)
-          ∙ heard-same table (c - 1) (ra n) (rb n) (p .near (c - 1) (omega arith) (omega arith)) va vb (omega arith) (same-value (omega arith)) (omega arith)
-          ∙ sym (ap (heard table (rb n)) (loud-b .sounds))
+          let w = l .admitted .resampler .arm-low in
+          let g : c + m ≤ q + 1 = le-of-mul-le-mul-right (subst (λ (j : ℕ). (c + m) * d ≤ j) whole h) (let u = l .admitted .decimator .counter-in in let v : 0 < d = omega arith in v) in
+          ap (resampleValues table (ra n)) (loud-a .sounds)
+          ∙ values-same table (c - 1) (ra n) (rb n) (p .near (c - 1) (omega arith) (omega arith)) va vb (omega arith) (same-value (omega arith)) (omega arith)
+          ∙ sym (ap (resampleValues table (rb n)) (loud-b .sounds))
 
     apart : (n : ℕ) → (q : ℕ) × Apart n q
     apart zero = (0, begin)
@@ -378,13 +377,13 @@ module _ (conjugated : Bool) (table xs : List Float) (a b : Rung) (l : Alike a b
         let p = apart n in
         ⊎-elim (λ s. (p .0, quietly n (p .0) (p .1) s)) (λ s. (p .0 + 1, loudly n (p .0) (p .1) s)) (lt-or-ge (da n .counter + 1) d)
 
-    heard-alike : (n : ℕ) → (c + m) * d ≤ since + n + 1 → heard table (ra n) (oa n) ≡ heard table (rb n) (ob n)
+    heard-alike : (n : ℕ) → (c + m) * d ≤ since + n + 1 → resampleValues table (ra n) (oa n) ≡ resampleValues table (rb n) (ob n)
     heard-alike n h =
         let p = apart n in
         ⊎-elim
         (λ s.
-        let u = ready-a n .by in
-        let v = ready-b n .by in
+        let u = counting-a n .by in
+        let v = counting-b n .by in
         let e = p .1 .counter in
         heard-nothing table (ra n) (oa n) (is-quiet (da n) (mixAt conjugated table xs (a .place .oscillator) n) (omega arith) .silent)
         ∙ sym (heard-nothing table (rb n) (ob n) (is-quiet (db n) (mixAt conjugated table xs (b .place .oscillator) n) (omega arith) .silent)))
@@ -397,14 +396,14 @@ module _ (conjugated : Bool) (table xs : List Float) (a b : Rung) (l : Alike a b
 
   trusted-above : 1 < d → (n : ℕ) → (3 + 1) * d ≤ since + n + 1 → oa n ≡ ob n
   trusted-above D n h =
-      same-above (mixAt conjugated table xs (a .place .oscillator)) (a .place .decimator) (b .place .decimator) (l .decimation) (l .counter) (l .ready .early) n
+      same-above (mixAt conjugated table xs (a .place .oscillator)) (a .place .decimator) (b .place .decimator) (l .decimation) (l .counter) (l .admitted .decimator .counter-in) n
       (l .words-real-a) (l .words-imaginary-a) (l .words-real-b) (l .words-imaginary-b) D h
       ∙ turned-alike n
 
   trusted-through : d ≤ 1 → (n : ℕ) → (0 + 1) * d ≤ since + n + 1 → oa n ≡ ob n
   trusted-through D n h =
-      let u = ready-a n .by in
-      let v = ready-b n .by in
+      let u = counting-a n .by in
+      let v = counting-b n .by in
       let z = mixAt conjugated table xs (a .place .oscillator) n in
       ap (λ (s : Step). s .output) (step-through (da n) z (omega arith))
       ∙ ap (λ (o : Oscillator). Value (mixAt conjugated table xs o n)) (l .oscillator)
@@ -418,7 +417,7 @@ module _ (conjugated : Bool) (table xs : List Float) (a b : Rung) (l : Alike a b
       (λ D. heard-alike 3 (trusted-above D) n (subst (λ (t : Bool). cond t ((c + 3) * d) c ≤ since + n + 1) (lt-ltb 1 d D) h))
       (λ D.
       let k : c ≤ since + n + 1 = subst (λ (t : Bool). cond t ((c + 3) * d) c ≤ since + n + 1) (le-ltb 1 d D) h in
-      let e : d ≡ 1 = (let u = l .ready .early in let g : d ≡ 1 = omega arith in g) in
+      let e : d ≡ 1 = (let u = l .admitted .decimator .counter-in in let g : d ≡ 1 = omega arith in g) in
       let g : (c + 0) * d ≡ c = ap (λ (j : ℕ). (c + 0) * j) e ∙ (let w : (c + 0) * 1 ≡ c = omega arith in w) in
       heard-alike 0 (trusted-through D) n (subst (λ (j : ℕ). j ≤ since + n + 1) (sym g) k))
       (lt-or-ge 1 d)

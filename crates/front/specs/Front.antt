@@ -17,7 +17,7 @@ use Rattle.decimator.specs.declared.Output.{Output}
 use Rattle.decimator.specs.declared.Output.the-variants.{Nothing}
 use Rattle.decimator.specs.declared.Step.{Step}
 use Rattle.decimator.specs.Decimator.{countsOf, absorbedOf, steppedOf}
-use Rattle.resampler.specs.Front.{Heard, hearing, heard}
+use Rattle.front.specs.Resample.{ResamplerState, resampleState, resampleValues}
 use Rattle.front.specs.declared.FrontPlace.{FrontPlace}
 use Rattle.front.specs.declared.Fronted.{Fronted}
 use Rattle.front.specs.declared.Gathering.{Gathering}
@@ -42,10 +42,10 @@ pub record Rung : Type 0 where
   pub real : List Float
   pub imaginary : List Float
 
-abbrev pub ringOf : Rung → Heard
+abbrev pub ringOf : Rung → ResamplerState
 ringOf r = record { resampler = r .place .resampler; real = r .real; imaginary = r .imaginary }
 
-abbrev pub rungOf : Oscillator → Decimator → Heard → Rung
+abbrev pub rungOf : Oscillator → Decimator → ResamplerState → Rung
 rungOf o d h = record { place = record { oscillator = o; decimator = d; resampler = h .resampler }; real = h .real; imaginary = h .imaginary }
 
 -- a front, and values that it made
@@ -61,7 +61,7 @@ stepOf conjugated o d x = steppedOf d (mixedOf o x conjugated)
 unfoldable pub frontStep : Bool → List Float → Rung → Complex32 → Run
 frontStep conjugated table r x =
     let s = stepOf conjugated (r .place .oscillator) (r .place .decimator) x in
-    record { rung = rungOf (turnedOf (r .place .oscillator)) (s .decimator) (hearing table (ringOf r) (s .output)); values = heard table (ringOf r) (s .output) }
+    record { rung = rungOf (turnedOf (r .place .oscillator)) (s .decimator) (resampleState table (ringOf r) (s .output)); values = resampleValues table (ringOf r) (s .output) }
 
 -- ---- a row of samples: the values are those before, and those of each sample after them
 unfoldable pub more : Bool → List Float → Run → Complex32 → Run
@@ -151,11 +151,11 @@ gatherOf conjugated xs from n g = turns (gatherTurn conjugated xs from) n g
 
 -- ---- a decimated value, or none: the ring and the row after it
 pub record Offered : Type 0 where
-  pub ring : Heard
+  pub ring : ResamplerState
   pub row : Row
 
 abbrev pub offeredOf : List Float → Offered → Output → Offered
-offeredOf table f o = record { ring = hearing table (f .ring) o; row = laidOf (heard table (f .ring) o) (f .row) }
+offeredOf table f o = record { ring = resampleState table (f .ring) o; row = laidOf (resampleValues table (f .ring) o) (f .row) }
 
 abbrev pub offeredNow : Offering → List Float → List Float → List Float → List Float → Offered
 offeredNow l ringReal ringImaginary rowReal rowImaginary = record {
@@ -165,7 +165,7 @@ offeredNow l ringReal ringImaginary rowReal rowImaginary = record {
 
 -- a run, and what its last sample gave
 abbrev pub advancedWith : List Float → Front → Drawn → Front
-advancedWith table f q = record { rung = rungOf (q .oscillator) (q .decimator) (hearing table (ringOf (f .rung)) (q .output)); row = laidOf (heard table (ringOf (f .rung)) (q .output)) (f .row); at = f .at + q .run }
+advancedWith table f q = record { rung = rungOf (q .oscillator) (q .decimator) (resampleState table (ringOf (f .rung)) (q .output)); row = laidOf (resampleValues table (ringOf (f .rung)) (q .output)) (f .row); at = f .at + q .run }
 
 unfoldable pub advancedOf : Bool → List Float → List Float → Front → Front
 advancedOf conjugated table xs f = advancedWith table f (drawnOf conjugated xs (f .at) (length xs / 2 - f .at) (f .rung .place))

@@ -12,12 +12,12 @@ use Rattle.decimator.specs.declared.Output.{Output}
 use Rattle.decimator.specs.declared.Output.the-variants.{Nothing, Value}
 use Rattle.resampler.specs.declared.pass.Resampler.{Resampler}
 use Rattle.resampler.specs.declared.pass.Passed.{Passed}
-use Rattle.resampler.specs.Front.{hearing, heard}
+use Rattle.front.specs.Resample.{resampleState, resampleValues}
 use Rattle.resampler.specs.Pass.{Sampled, resampledOf, valuesOf}
-use Rattle.resampler.specs.Ready.{Kept}
-use Rattle.resampler.specs.Ready.{Ready as ReadyRing}
+use Rattle.resampler.specs.Admitted.{PassKeeps}
+use Rattle.resampler.specs.Admitted.{Admitted as RingAdmitted}
 use Rattle.front.specs.Front.{Row, Offered, laidOf, offeredOf}
-use Rattle.front.specs.Ready.{Offer}
+use Rattle.front.specs.Admitted.{Offer}
 
 -- ---- values into the row
 two-taken : {A : Type 0} (n : ℕ) (a b : A) → 2 ≤ n → take n (a ∷ b ∷ []) ≡ a ∷ b ∷ []
@@ -46,13 +46,13 @@ laid-two p r h = rw (two-taken (p .count) (p .first) (p .second) h, add-one)
 
 -- ---- a decimated value, or none
 pub offered-none : (table : List Float) (f : Offered) (o : Output) → o ≡ Nothing → f ≡ offeredOf table f o
-unfolding hearing heard
+unfolding resampleState resampleValues
 offered-none table f o e = rw e (λ i. record { ring = f .ring; row = laid-nothing (f .row) i })
 
 pub offered-some : (table : List Float) (f : Offered) (o : Output) (v : Complex32) (s : Sampled) (row : Row) → o ≡ Value v
     → s ≡ resampledOf (f .ring .resampler) v table (f .ring .real) (f .ring .imaginary) → row ≡ laidOf (valuesOf (s .passed)) (f .row)
     → _≡_ {A = Offered} (record { ring = record { resampler = s .passed .resampler; real = s .real; imaginary = s .imaginary }; row = row }) (offeredOf table f o)
-unfolding hearing heard
+unfolding resampleState resampleValues
 offered-some table f o v s row e se re =
     (λ i. record { ring = record { resampler = s .passed .resampler; real = s .real; imaginary = s .imaginary }; row = re i })
     ∙ (λ i. record { ring = record { resampler = se i .passed .resampler; real = se i .real; imaginary = se i .imaginary }; row = laidOf (valuesOf (se i .passed)) (f .row) })
@@ -72,12 +72,12 @@ made-laid : (zs : List Complex32) (r : Row) → laidOf zs r .made ≡ r .made + 
 unfolding laidOf
 made-laid zs r = refl
 
-pub offer-none : (r : Resampler) (made : ℕ) → ReadyRing r → Offer r made (record { resampler = r; made = made })
-offer-none r made k = record { ready = k; index-low = omega arith; index = omega arith; arm = refl; few = omega arith }
+pub offer-none : (r : Resampler) (made : ℕ) → RingAdmitted r → Offer r made (record { resampler = r; made = made })
+offer-none r made k = record { admitted = k; index-low = omega arith; index = omega arith; arm = refl; few = omega arith }
 
-pub offer-some : (r : Resampler) (made : ℕ) (p : Passed) (row old : Row) → Kept r p → old .made ≡ made → row ≡ laidOf (valuesOf p) old → Offer r made (record { resampler = p .resampler; made = row .made })
+pub offer-some : (r : Resampler) (made : ℕ) (p : Passed) (row old : Row) → PassKeeps r p → old .made ≡ made → row ≡ laidOf (valuesOf p) old → Offer r made (record { resampler = p .resampler; made = row .made })
 offer-some r made p row old k m e =
     let i = k .one-more in
     let l = values-few p in
     let h : row .made ≡ old .made + length (valuesOf p) = ap (λ (t : Row). t .made) e ∙ made-laid (valuesOf p) old in
-    record { ready = k .ready; index-low = omega arith; index = omega arith; arm = k .same-arm; few = omega arith }
+    record { admitted = k .admitted; index-low = omega arith; index = omega arith; arm = k .same-arm; few = omega arith }

@@ -1,8 +1,12 @@
+pub mod Resample
 pub mod Front
-pub mod Ready
+pub mod Admitted
+pub mod Lends
+pub mod AdmittedLaws
 pub mod Runs
 pub mod Laws
 pub mod Draws
 pub mod Steps
 pub mod Rows
+pub mod FiltersForget
 pub mod Forgets

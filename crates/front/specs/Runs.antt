@@ -23,14 +23,13 @@ use Rattle.decimator.specs.declared.Integrators.{Integrators}
 use Rattle.decimator.specs.declared.Advance.{Advance}
 use Rattle.decimator.specs.declared.Output.the-variants.{Nothing, Value}
 use Rattle.decimator.specs.declared.Step.{Step}
-use Rattle.decimator.specs.Decimator.{countsOf, absorbedOf, silentOf, soundedOf, advancedOf, decimatedOf, outputOf, steppedOf}
-use Rattle.decimator.specs.Values.{step-above, step-through, step-ready}
-use Rattle.decimator.specs.Values.{Ready as ReadyBy}
+use Rattle.decimator.specs.Decimator.{Counting, countsOf, absorbedOf, silentOf, soundedOf, advancedOf, decimatedOf, outputOf, steppedOf}
+use Rattle.decimator.specs.Values.{step-above, step-through, step-counting}
 use Rattle.front.specs.declared.FrontPlace.{FrontPlace}
 use Rattle.front.specs.declared.Gathering.{Gathering}
 use Rattle.front.specs.declared.Drawn.{Drawn}
 use Rattle.front.specs.Front.{sampleAt, stepOf, runOf, drawTurn, drawStart, drawnOf, gatheredOf, gatherTurn, gatherOf}
-use Rattle.front.specs.Ready.{Ready, Numbers, Drew}
+use Rattle.front.specs.Admitted.{Admitted, Numbers, Drew}
 
 -- ---- a sample of a block that was let in
 pub number-at : (xs : List Float) → Numbers xs → (k : ℕ) → k < length xs / 2 → Number (sampleAt xs k)
@@ -42,7 +41,7 @@ pub gathered-is : (conjugated : Bool) (g : Gathering) (x z : Complex32) (s : Int
 gathered-is conjugated g x z s o ze se oe = λ i. record { oscillator = oe i; integrators = (se ∙ ap (λ (t : Complex32). absorbedOf (g .integrators) (countsOf t)) ze) i }
 
 -- ---- what a run keeps
-module _ (conjugated : Bool) (xs : List Float) (from : ℕ) (p : FrontPlace) (r : Ready p) where
+module _ (conjugated : Bool) (xs : List Float) (from : ℕ) (p : FrontPlace) (r : Admitted p) where
   abbrev pub drew : ℕ → Drawn
   drew k = turns (drawTurn conjugated xs from) k (drawStart p)
 
@@ -53,13 +52,13 @@ module _ (conjugated : Bool) (xs : List Float) (from : ℕ) (p : FrontPlace) (r 
 
   pub turns-in : (k : ℕ) → drew k .oscillator .renormalize < 4096
   unfolding turns
-  turns-in zero = r .turns
+  turns-in zero = r .oscillator .renormalize-in
   turns-in (suc k) = turned-below (drew k .oscillator) (turns-in k)
 
-  pub decimator-in : (k : ℕ) → ReadyBy (p .decimator .decimation) (drew k .decimator)
+  pub decimator-in : (k : ℕ) → Counting (p .decimator .decimation) (drew k .decimator)
   unfolding turns
-  decimator-in zero = record { by = refl; early = r .early }
-  decimator-in (suc k) = step-ready (p .decimator .decimation) (drew k .decimator) (mixedOf (drew k .oscillator) (sampleAt xs (from + k)) conjugated) (decimator-in k)
+  decimator-in zero = record { by = refl; early = r .decimator .counter-in }
+  decimator-in (suc k) = step-counting (p .decimator .decimation) (drew k .decimator) (mixedOf (drew k .oscillator) (sampleAt xs (from + k)) conjugated) (decimator-in k)
 
   pub drawn-kept : (left : ℕ) → Drew left p (drawnOf conjugated xs from left p)
   unfolding drawnOf
@@ -79,7 +78,7 @@ module _ (conjugated : Bool) (xs : List Float) (from : ℕ) (p : FrontPlace) (r 
     where
       some : 0 < left → 0 < runOf (p .decimator) left
       some l =
-          let b = r .early in
+          let b = r .decimator .counter-in in
           ⊎-elim
           (λ (h : left < p .decimator .decimation - p .decimator .counter). subst (λ (k : ℕ). 0 < k) (sym (min-eq-left (let g : left ≤ p .decimator .decimation - p .decimator .counter = omega arith in g))) l)
           (λ (h : p .decimator .decimation - p .decimator .counter ≤ left). subst (λ (k : ℕ). 0 < k) (sym (min-eq-right h)) (omega arith))
@@ -94,7 +93,7 @@ module _ (conjugated : Bool) (xs : List Float) (from : ℕ) (p : FrontPlace) (r 
       → _≡_ {A = Drawn} (record { oscillator = o; decimator = p .decimator; output = Value z; run = 1 }) (drawnOf conjugated xs from left p)
   unfolding drawnOf turns
   single-is left z o D l ze oe =
-      let b = r .early in
+      let b = r .decimator .counter-in in
       let n : runOf (p .decimator) left ≡ 1 = min-eq-right (let g : p .decimator .decimation - p .decimator .counter ≤ left = omega arith in g) ∙ (let g : p .decimator .decimation - p .decimator .counter ≡ 1 = omega arith in g) in
       let f : from + 0 ≡ from = omega arith in
       let s : _≡_ {A = Step} (record { decimator = p .decimator; output = Value z }) (stepOf conjugated (p .oscillator) (p .decimator) (sampleAt xs (from + 0))) =
@@ -121,12 +120,19 @@ module _ (conjugated : Bool) (xs : List Float) (from : ℕ) (p : FrontPlace) (r 
     abbrev next : ℕ → Complex32
     next k = mixedOf (taken k .oscillator) (sampleAt xs (from + k)) conjugated
 
+    -- its step, by whether it comes before the d-th
+    abbrev finished : ℕ → Bool → Step
+    finished k b =
+        let s = absorbedOf (taken k .integrators) (countsOf (next k)) in
+        let a : Advance = cond b (silentOf (waited k) s) (soundedOf (waited k) s) in
+        record { decimator = a .decimator; output = outputOf (p .decimator .decimation) (a .raw) }
+
     quiet-step : (k : ℕ) → p .decimator .counter + k + 1 < p .decimator .decimation
         → _≡_ {A = Step} (steppedOf (waited k) (next k)) (record { decimator = record { decimation = p .decimator .decimation; counter = p .decimator .counter + k + 1; integrators = absorbedOf (taken k .integrators) (countsOf (next k)); combs = p .decimator .combs }; output = Nothing })
     unfolding advancedOf outputOf
     quiet-step k l =
         step-above (waited k) (next k) D
-        ∙ ap (λ (b : Bool). let a : Advance = cond b (silentOf (waited k) (absorbedOf (taken k .integrators) (countsOf (next k)))) (soundedOf (waited k) (absorbedOf (taken k .integrators) (countsOf (next k)))) in record { decimator = a .decimator; output = outputOf (p .decimator .decimation) (a .answer) })
+        ∙ ap (finished k)
         (lt-ltb (p .decimator .counter + k + 1) (p .decimator .decimation) l)
 
     pub quiet : (k : ℕ) → p .decimator .counter + k < p .decimator .decimation → drew k ≡ quietly k
@@ -152,7 +158,7 @@ module _ (conjugated : Bool) (xs : List Float) (from : ℕ) (p : FrontPlace) (r 
     unfolding advancedOf outputOf
     loud-step k l =
         step-above (waited k) (next k) D
-        ∙ ap (λ (b : Bool). let a : Advance = cond b (silentOf (waited k) (absorbedOf (taken k .integrators) (countsOf (next k)))) (soundedOf (waited k) (absorbedOf (taken k .integrators) (countsOf (next k)))) in record { decimator = a .decimator; output = outputOf (p .decimator .decimation) (a .answer) })
+        ∙ ap (finished k)
         (le-ltb (p .decimator .counter + k + 1) (p .decimator .decimation) l)
 
     loud : (k : ℕ) → p .decimator .counter + k + 1 ≡ p .decimator .decimation → drew (suc k) ≡ whole (taken (suc k)) (decimatedOf (p .decimator) (taken (suc k) .integrators)) (suc k)
@@ -181,14 +187,14 @@ module _ (conjugated : Bool) (xs : List Float) (from : ℕ) (p : FrontPlace) (r 
           → whole g e n ≡ drawnOf conjugated xs from left p
       unfolding gatherOf drawnOf
       whole-is e l ee =
-          let b = r .early in
+          let b = r .decimator .counter-in in
           let m : n ≤ p .decimator .decimation - p .decimator .counter = subst (λ (k : ℕ). k ≤ p .decimator .decimation - p .decimator .counter) (sym ne) (min-le-right left (p .decimator .decimation - p .decimator .counter)) in
           go n refl m l
         where
           go : (k : ℕ) → k ≡ n → n ≤ p .decimator .decimation - p .decimator .counter → p .decimator .decimation - p .decimator .counter ≤ n → whole g e n ≡ drew (runOf (p .decimator) left)
-          go zero f m l = let b = r .early in absurd (omega arith)
+          go zero f m l = let b = r .decimator .counter-in in absurd (omega arith)
           go (suc k) f m l =
-              let b = r .early in
+              let b = r .decimator .counter-in in
               ap (λ (t : Decimated). whole g t n) ee
               ∙ ap (λ (t : Gathering). whole t (decimatedOf (p .decimator) (t .integrators)) n) ge
               ∙ ap (λ (j : ℕ). whole (taken j) (decimatedOf (p .decimator) (taken j .integrators)) j) (sym f)

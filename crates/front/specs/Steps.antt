@@ -1,4 +1,4 @@
--- What a sample keeps of a front, on the definitions: it stays ready, and makes at most two values. Assumes nothing.
+-- What a sample keeps of a front, on the definitions: it stays admitted, and makes at most two values. Assumes nothing.
 use Prim.Native.Nat.{ℕ, zero, suc, _+_, _*_, _/_, _^_, _≤_, _<_}
 use native.Mathlib.Omega.{arith}
 use mathlib.Core.Path.{_≡_, refl, sym, ap, _∙_, subst}
@@ -11,31 +11,36 @@ use Rattle.laws.specs.Turns.{turns, turns-foldl, turns-same}
 use Rattle.laws.specs.Places.{upto, length-upto, upto-at}
 use Rattle.complex.specs.declared.Complex32.{Complex32}
 use Rattle.oscillator.specs.declared.Oscillator.{Oscillator}
-use Rattle.oscillator.specs.Oscillator.{freshOscillator, turnedOf, mixedOf}
+use Rattle.oscillator.specs.Oscillator.{freshOf as freshOscillator, turnedOf, mixedOf}
+use Rattle.oscillator.specs.Oscillator.{Admitted as OscillatorAdmitted}
 use Rattle.decimator.specs.declared.Decimator.{Decimator}
 use Rattle.decimator.specs.Decimator.{freshOf as freshDecimator}
+use Rattle.decimator.specs.Decimator.{Admitted as DecimatorAdmitted}
 use Rattle.resampler.specs.declared.dimensions.Dimensions.{Dimensions}
 use Rattle.resampler.specs.declared.pass.Resampler.{Resampler}
 use Rattle.resampler.specs.Dimensions.{freshOf}
-use Rattle.resampler.specs.Ranges.{Sized}
-use Rattle.resampler.specs.Ranges.{fresh-ready as ring-ready}
-use Rattle.oscillator.specs.Laws.{turned-below}
+use Rattle.resampler.specs.Admitted.{Sized}
+use Rattle.resampler.specs.Ranges.{fresh-admitted as ring-admitted}
+use Rattle.oscillator.specs.Laws.{turned-admitted}
+use Rattle.oscillator.specs.Laws.{fresh-admitted as oscillator-admitted}
 use Rattle.decimator.specs.declared.Output.{Output}
 use Rattle.decimator.specs.declared.Output.the-variants.{Nothing, Value}
-use Rattle.decimator.specs.Values.{step-ready}
-use Rattle.resampler.specs.Front.{Heard, hearing, heard}
+use Rattle.decimator.specs.Values.{step-counting}
+use Rattle.decimator.specs.AdmittedLaws.{step-admitted}
+use Rattle.decimator.specs.AdmittedLaws.{fresh-admitted as decimator-admitted}
+use Rattle.front.specs.Resample.{ResamplerState, resampleState, resampleValues}
 use Rattle.resampler.specs.Pass.{resampledOf}
-use Rattle.resampler.specs.Ready.{ready-again, next-stored}
-use Rattle.resampler.specs.Ready.{Ready as ReadyRing}
+use Rattle.resampler.specs.AdmittedLaws.{admitted-again, next-stored}
+use Rattle.resampler.specs.Admitted.{Admitted as RingAdmitted}
 use Rattle.front.specs.declared.FrontPlace.{FrontPlace}
 use Rattle.front.specs.Front.{sampleAt, samplesOf, Rung, Run, ringOf, stepOf, frontStep, more, frontOver, frontTurn, frontOf}
-use Rattle.front.specs.Ready.{Ready, Next}
+use Rattle.front.specs.Admitted.{Admitted, Next}
 use Rattle.front.specs.Laws.{values-few}
 use Rattle.front.specs.Draws.{next-none, next-on}
 
--- a front that is ready, its next output a float of its format
+-- an admitted front, its next output a float of its format
 pub record Sound (p : FrontPlace) : Type 0 where
-  pub ready : Ready p
+  pub admitted : Admitted p
   pub stored : T (fits binary64 (p .resampler .next))
 
 -- what n samples keep
@@ -48,8 +53,8 @@ pub record Stepped (n : ℕ) (r s : Rung) : Type 0 where
   pub imaginary : length (s .imaginary) ≡ length (r .imaginary)
 
 -- ---- the ring
-record Hearing (h g : Heard) : Type 0 where
-  ready : ReadyRing (g .resampler)
+record Hearing (h g : ResamplerState) : Type 0 where
+  admitted : RingAdmitted (g .resampler)
   stored : T (fits binary64 (g .resampler .next))
   index-low : h .resampler .index ≤ g .resampler .index
   index : g .resampler .index ≤ h .resampler .index + 1
@@ -59,15 +64,15 @@ record Hearing (h g : Heard) : Type 0 where
   real : length (g .real) ≡ length (h .real)
   imaginary : length (g .imaginary) ≡ length (h .imaginary)
 
-hears : (table : List Float) (h : Heard) (o : Output) → ReadyRing (h .resampler) → T (fits binary64 (h .resampler .next)) → h .resampler .index < 2 ^ 52 → Hearing h (hearing table h o)
-unfolding hearing resampledOf
-hears table h Nothing k F room = record { ready = k; stored = F; index-low = omega arith; index = omega arith; arm = refl; half = refl; step = refl; real = refl; imaginary = refl }
+hears : (table : List Float) (h : ResamplerState) (o : Output) → RingAdmitted (h .resampler) → T (fits binary64 (h .resampler .next)) → h .resampler .index < 2 ^ 52 → Hearing h (resampleState table h o)
+unfolding resampleState resampledOf
+hears table h Nothing k F room = record { admitted = k; stored = F; index-low = omega arith; index = omega arith; arm = refl; half = refl; step = refl; real = refl; imaginary = refl }
 hears table h (Value v) k F room =
     let r = h .resampler in
     let xs = set (h .real) (r .write) (v .real) in
     let ys = set (h .imaginary) (r .write) (v .imaginary) in
     record {
-      ready = ready-again r k F room table xs ys;
+      admitted = admitted-again r k F room table xs ys;
       stored = next-stored r k F room table xs ys;
       index-low = omega arith;
       index = omega arith;
@@ -78,30 +83,32 @@ hears table h (Value v) k F room =
       imaginary = length-set (h .imaginary) (r .write) (v .imaginary);
     }
 
-heard-few : (table : List Float) (h : Heard) (o : Output) → length (heard table h o) ≤ 2
-unfolding heard
-heard-few table h Nothing = omega arith
-heard-few table h (Value v) = values-few (resampledOf (h .resampler) v table (h .real) (h .imaginary) .passed)
+resampled-few : (table : List Float) (h : ResamplerState) (o : Output) → length (resampleValues table h o) ≤ 2
+unfolding resampleValues
+resampled-few table h Nothing = omega arith
+resampled-few table h (Value v) = values-few (resampledOf (h .resampler) v table (h .real) (h .imaginary) .passed)
 
 -- ---- one sample
 pub values-two : (conjugated : Bool) (table : List Float) (r : Rung) (x : Complex32) → length (frontStep conjugated table r x .values) ≤ 2
 unfolding frontStep
-values-two conjugated table r x = heard-few table (ringOf r) (stepOf conjugated (r .place .oscillator) (r .place .decimator) x .output)
+values-two conjugated table r x = resampled-few table (ringOf r) (stepOf conjugated (r .place .oscillator) (r .place .decimator) x .output)
 
 pub stepped : (conjugated : Bool) (table : List Float) (r : Rung) (x : Complex32) → Sound (r .place) → r .place .resampler .index < 2 ^ 52 → Stepped 1 r (frontStep conjugated table r x .rung)
 unfolding frontStep
 stepped conjugated table r x k room =
     let s = stepOf conjugated (r .place .oscillator) (r .place .decimator) x in
-    let d = step-ready (r .place .decimator .decimation) (r .place .decimator) (mixedOf (r .place .oscillator) x conjugated) (record { by = refl; early = k .ready .early }) in
-    let h = hears table (ringOf r) (s .output) (k .ready .ring) (k .stored) room in
+    let d = step-counting (r .place .decimator .decimation) (r .place .decimator) (mixedOf (r .place .oscillator) x conjugated) (record { by = refl; early = k .admitted .decimator .counter-in }) in
+    let h = hears table (ringOf r) (s .output) (k .admitted .resampler) (k .stored) room in
     let b = d .by in
-    let e = d .early in
-    let w = k .ready .slow in
-    let g : Ready (record { oscillator = turnedOf (r .place .oscillator); decimator = s .decimator; resampler = hearing table (ringOf r) (s .output) .resampler }) =
-    record { turns = turned-below (r .place .oscillator) (k .ready .turns); early = omega arith; slow = omega arith; ring = h .ready } in
+    let g : Admitted (record { oscillator = turnedOf (r .place .oscillator); decimator = s .decimator; resampler = resampleState table (ringOf r) (s .output) .resampler }) =
     record {
-      sound = record { ready = g; stored = h .stored };
-      next = record { ready = g; index-low = h .index-low; index = h .index; arm = h .arm; decimation = b };
+      oscillator = turned-admitted (r .place .oscillator) (k .admitted .oscillator);
+      decimator = step-admitted (r .place .decimator) (mixedOf (r .place .oscillator) x conjugated) (k .admitted .decimator);
+      resampler = h .admitted;
+    } in
+    record {
+      sound = record { admitted = g; stored = h .stored };
+      next = record { admitted = g; index-low = h .index-low; index = h .index; arm = h .arm; decimation = b };
       half = h .half;
       step = h .step;
       real = h .real;
@@ -114,7 +121,7 @@ pub record Ran (n : ℕ) (h g : Run) : Type 0 where
   pub values : length (g .values) ≤ length (h .values) + n * 2
 
 ran-none : (h : Run) → Sound (h .rung .place) → Ran 0 h h
-ran-none h k = record { kept = record { sound = k; next = next-none 0 (h .rung .place) (k .ready); half = refl; step = refl; real = refl; imaginary = refl }; values = omega arith }
+ran-none h k = record { kept = record { sound = k; next = next-none 0 (h .rung .place) (k .admitted); half = refl; step = refl; real = refl; imaginary = refl }; values = omega arith }
 
 ran-more : (conjugated : Bool) (table : List Float) (n : ℕ) (h g : Run) (x : Complex32) → h .rung .place .resampler .index + suc n ≤ 2 ^ 52 → Ran n h g → Ran (suc n) h (more conjugated table g x)
 unfolding more
@@ -154,14 +161,11 @@ front-over conjugated table xs none h =
     ∙ ap (λ (n : ℕ). turns (λ k a. more conjugated table a (getD (upto (sampleAt xs) (length xs / 2)) k none)) n h) (sym (length-upto (sampleAt xs) (length xs / 2)))
     ∙ turns-foldl (more conjugated table) none (upto (sampleAt xs) (length xs / 2)) h
 
--- ---- a fresh front is ready
-pub fresh-ready : (rate offset : Float) (s : Dimensions) → Sized s → (o : Oscillator) (d : Decimator) (r : Resampler) → o ≡ freshOscillator rate offset → d ≡ freshDecimator (s .decimation) → r ≡ freshOf s
-    → Ready (record { oscillator = o; decimator = d; resampler = r })
-unfolding freshDecimator
-fresh-ready rate offset s k o d r oe de re =
-    let a = ap (λ (t : Oscillator). t .renormalize) oe in
-    let b = ap (λ (t : Decimator). t .counter) de in
-    let c = ap (λ (t : Decimator). t .decimation) de in
-    let e = k .decimation-low in
-    let f = k .decimation-high in
-    record { turns = omega arith; early = omega arith; slow = omega arith; ring = subst ReadyRing (sym re) (ring-ready s k) }
+-- ---- a fresh front is admitted
+pub fresh-admitted : (rate offset : Float) (s : Dimensions) → Sized s → (o : Oscillator) (d : Decimator) (r : Resampler) → o ≡ freshOscillator rate offset → d ≡ freshDecimator (s .decimation) → r ≡ freshOf s
+    → Admitted (record { oscillator = o; decimator = d; resampler = r })
+fresh-admitted rate offset s k o d r oe de re = record {
+  oscillator = subst OscillatorAdmitted (sym oe) (oscillator-admitted rate offset);
+  decimator = subst DecimatorAdmitted (sym de) (decimator-admitted (s .decimation) (k .decimation-low) (k .decimation-high));
+  resampler = subst RingAdmitted (sym re) (ring-admitted s k);
+}

@@ -1,28 +1,37 @@
-// The front: samples are mixed, decimated and resampled into a row of values.
+// The front: samples are mixed, decimated and resampled into a row of values, 19,200 a second.
 ghost use mathlib.Core.Path.{_≡_};
 ghost use Prim.Native.Nat as Nat;
 ghost use Prim.Native.Nat.{_+_, _-_, _*_, _/_, _^_, _<_, _≤_};
 ghost use lib.ListN.{length};
 ghost use Rattle.oscillator.specs.Oscillator.{Number};
-ghost use Rattle.resampler.specs.Ready.{Ready as ReadyRing};
+ghost use Rattle.resampler.specs.Admitted.{Admitted as RingAdmitted};
 ghost use Rattle.resampler.specs.Pass.{valuesOf};
-ghost use Rattle.front.specs.Front.{Front, Row, Offered, gatheredOf, gatherOf, drawnOf, laidOf, offeredNow, offeredOf, advancedOf, filledOf, frontNow, startOf};
-ghost use Rattle.front.specs.Ready.{Ready, Numbers, Kept, Drew, Offer, Moved};
+ghost use Rattle.front.specs.Front.{gatheredOf, gatherOf, drawnOf, laidOf, offeredOf, advancedOf, filledOf, startOf};
+ghost use Rattle.front.specs.Admitted.{admittedOf, Admitted, Numbers, CallKeeps, Drew, Offer, Moved};
+ghost use Rattle.front.specs.Lends.{leavesRow, leavesOffer, leaves};
 use complex::Complex32;
 use decimator::Decimator;
 use decimator::Integrators;
 use decimator::Output;
 use oscillator::Oscillator;
+use resampler::pass::PLACES;
 use resampler::pass::Passed;
 use resampler::pass::Resampler;
 
+// Values that a row has room for.
+pub const ROW: usize = 256;
+
+// A row that holds more values than this has no room for the two that a sample can make.
+const ROOM: usize = 254;
+
+// Where the front stands between two samples; the ring's two planes are lent beside it.
 pub struct FrontPlace {
     pub oscillator: Oscillator,
     pub decimator: Decimator,
     pub resampler: Resampler,
 }
 
-// How many samples a call used, and how many values it made of them.
+// The front after a call, how many samples it used, and how many values it made of them.
 pub struct Fronted {
     pub place: FrontPlace,
     pub used: usize,
@@ -49,6 +58,16 @@ pub struct Offering {
     pub made: usize,
 }
 
+// Whether this front may be run, be it from a setup or handed in.
+pub fn is_admitted(p: FrontPlace) -> bool
+    ensures { λ b. ⌜ b ≡ admittedOf p ⌝ }
+{
+    let o = p.oscillator;
+    let d = p.decimator;
+    let r = p.resampler;
+    oscillator::is_admitted(o) & (decimator::is_admitted(d) & resampler::pass::is_admitted(r))
+}
+
 // One sample: the oscillator is lent and turned, the integrators take what it made.
 fn gathered(g: Gathering, conjugated: bool, sample: Complex32) -> Gathering
     requires { ⌜ Number sample ⌝ }
@@ -66,7 +85,8 @@ fn gathered(g: Gathering, conjugated: bool, sample: Complex32) -> Gathering
     }
 }
 
-// `count` samples from `from` on into the integrators: what they change stays in registers.
+// `count` samples from `from` on go into the integrators; the combs and the counter wait for the end of
+// the run, so what a sample changes stays in registers.
 fn gather(g: Gathering, conjugated: bool, samples: &[f32], from: usize, count: usize) -> Gathering
     requires { ⌜ Numbers (now samples) ⌝ }
     requires { ⌜ g .oscillator .renormalize < 4096 ⌝ }
@@ -86,9 +106,9 @@ fn gather(g: Gathering, conjugated: bool, samples: &[f32], from: usize, count: u
     h
 }
 
-// d = 1: one sample, and it goes on as it is mixed.
+// At d = 1, one sample, which goes on as it is mixed.
 fn single(p: FrontPlace, conjugated: bool, samples: &[f32], from: usize) -> Drawn
-    requires { ⌜ Ready p ⌝ }
+    requires { ⌜ Admitted p ⌝ }
     requires { ⌜ p .decimator .decimation ≤ 1 ⌝ }
     requires { ⌜ Numbers (now samples) ⌝ }
     requires { ⌜ from < length (now samples) / 2 ⌝ }
@@ -111,15 +131,16 @@ fn single(p: FrontPlace, conjugated: bool, samples: &[f32], from: usize) -> Draw
     }
 }
 
+// The smaller of the two.
 fn least(a: usize, b: usize) -> usize
     ensures { λ r. ⌜ r ≡ Nat.min a b ⌝ }
 {
     if a < b { a } else { b }
 }
 
-// d > 1: a run of samples into the integrators and, where it ends at a d-th, the combs' value.
+// At d > 1, a run of samples into the integrators and, where it ends at a d-th sample, the combs' value.
 fn several(p: FrontPlace, conjugated: bool, samples: &[f32], from: usize) -> Drawn
-    requires { ⌜ Ready p ⌝ }
+    requires { ⌜ Admitted p ⌝ }
     requires { ⌜ 1 < p .decimator .decimation ⌝ }
     requires { ⌜ Numbers (now samples) ⌝ }
     requires { ⌜ from < length (now samples) / 2 ⌝ }
@@ -164,7 +185,7 @@ fn several(p: FrontPlace, conjugated: bool, samples: &[f32], from: usize) -> Dra
 
 // The next run of samples through mixer and decimator.
 fn draw(p: FrontPlace, conjugated: bool, samples: &[f32], from: usize) -> Drawn
-    requires { ⌜ Ready p ⌝ }
+    requires { ⌜ Admitted p ⌝ }
     requires { ⌜ Numbers (now samples) ⌝ }
     requires { ⌜ from < length (now samples) / 2 ⌝ }
     ensures same { λ r. ⌜ r ≡ drawnOf conjugated (now (samples .entry)) from (length (now (samples .entry)) / 2 - from) p ⌝ }
@@ -178,10 +199,9 @@ fn draw(p: FrontPlace, conjugated: bool, samples: &[f32], from: usize) -> Drawn
 }
 
 // The values of a pass go into the row.
-fn laid(p: Passed, made: usize, row_real: &mut [f32; 256], row_imaginary: &mut [f32; 256]) -> usize
+fn laid(p: Passed, made: usize, row_real: &mut [f32; ROW], row_imaginary: &mut [f32; ROW]) -> usize
     requires { ⌜ made ≤ 254 ⌝ }
-    ensures { λ r. ⌜ _≡_ {A = Row} (record { real = now («row_real» .exit); imaginary = now («row_imaginary» .exit); made = r })
-        (laidOf (valuesOf p) (record { real = now («row_real» .entry); imaginary = now («row_imaginary» .entry); made = made })) ⌝ }
+    ensures { λ r. ⌜ leavesRow made r «row_real» «row_imaginary» (λ row after. after ≡ laidOf (valuesOf p) row) ⌝ }
 {
     if p.count == 0 {
         return made;
@@ -202,17 +222,17 @@ fn offered(
     made: usize,
     output: Output,
     table: &[f32],
-    ring_real: &mut [f32; 592],
-    ring_imaginary: &mut [f32; 592],
-    row_real: &mut [f32; 256],
-    row_imaginary: &mut [f32; 256],
+    ring_real: &mut [f32; PLACES],
+    ring_imaginary: &mut [f32; PLACES],
+    row_real: &mut [f32; ROW],
+    row_imaginary: &mut [f32; ROW],
 ) -> Offering
-    requires { ⌜ ReadyRing r ⌝ }
+    requires { ⌜ RingAdmitted r ⌝ }
     requires { ⌜ r .index < 2 ^ 52 ⌝ }
     requires { ⌜ 32 * r .arm ≤ length (now table) ⌝ }
     requires { ⌜ made ≤ 254 ⌝ }
-    ensures same { λ l. ⌜ _≡_ {A = Offered} (offeredNow l (now («ring_real» .exit)) (now («ring_imaginary» .exit)) (now («row_real» .exit)) (now («row_imaginary» .exit)))
-        (offeredOf (now (table .entry)) (offeredNow (record { resampler = r; made = made }) (now («ring_real» .entry)) (now («ring_imaginary» .entry)) (now («row_real» .entry)) (now («row_imaginary» .entry))) output) ⌝ }
+    ensures same { λ l. ⌜ leavesOffer (record { resampler = r; made = made }) l «ring_real» «ring_imaginary» «row_real» «row_imaginary»
+        (λ before after. after ≡ offeredOf (now (table .entry)) before output) ⌝ }
     ensures kept { λ l. ⌜ Offer r made l ⌝ }
 {
     match output {
@@ -242,21 +262,22 @@ fn advance(
     samples: &[f32],
     from: usize,
     table: &[f32],
-    ring_real: &mut [f32; 592],
-    ring_imaginary: &mut [f32; 592],
-    row_real: &mut [f32; 256],
-    row_imaginary: &mut [f32; 256],
+    ring_real: &mut [f32; PLACES],
+    ring_imaginary: &mut [f32; PLACES],
+    row_real: &mut [f32; ROW],
+    row_imaginary: &mut [f32; ROW],
 ) -> Fronted
-    requires { ⌜ Ready (t .place) ⌝ }
+    requires { ⌜ Admitted (t .place) ⌝ }
     requires { ⌜ Numbers (now samples) ⌝ }
     requires { ⌜ 32 * t .place .resampler .arm ≤ length (now table) ⌝ }
     requires { ⌜ t .place .resampler .index < 2 ^ 52 ⌝ }
     requires { ⌜ t .made ≤ 254 ⌝ }
     requires { ⌜ from + t .used < length (now samples) / 2 ⌝ }
-    ensures same { λ r. ⌜ _≡_ {A = Front} (frontNow r from (now («ring_real» .exit)) (now («ring_imaginary» .exit)) (now («row_real» .exit)) (now («row_imaginary» .exit)))
-        (advancedOf conjugated (now (table .entry)) (now (samples .entry)) (frontNow t from (now («ring_real» .entry)) (now («ring_imaginary» .entry)) (now («row_real» .entry)) (now («row_imaginary» .entry)))) ⌝ }
-    ensures left { λ r. ⌜ filledOf conjugated (now (table .entry)) (now (samples .entry)) (frontNow r from (now («ring_real» .exit)) (now («ring_imaginary» .exit)) (now («row_real» .exit)) (now («row_imaginary» .exit)))
-        ≡ filledOf conjugated (now (table .entry)) (now (samples .entry)) (frontNow t from (now («ring_real» .entry)) (now («ring_imaginary» .entry)) (now («row_real» .entry)) (now («row_imaginary» .entry))) ⌝ }
+    ensures same { λ r. ⌜ leaves from t r «ring_real» «ring_imaginary» «row_real» «row_imaginary»
+        (λ before after. after ≡ advancedOf conjugated (now (table .entry)) (now (samples .entry)) before) ⌝ }
+    ensures left { λ r. ⌜ leaves from t r «ring_real» «ring_imaginary» «row_real» «row_imaginary»
+        (λ before after. filledOf conjugated (now (table .entry)) (now (samples .entry)) after
+        ≡ filledOf conjugated (now (table .entry)) (now (samples .entry)) before) ⌝ }
     ensures kept { λ r. ⌜ Moved (length (now (samples .entry)) / 2 - (from + t .used)) t r ⌝ }
 {
     let p = t.place;
@@ -295,19 +316,19 @@ pub fn front(
     samples: &[f32],
     from: usize,
     table: &[f32],
-    ring_real: &mut [f32; 592],
-    ring_imaginary: &mut [f32; 592],
-    row_real: &mut [f32; 256],
-    row_imaginary: &mut [f32; 256],
+    ring_real: &mut [f32; PLACES],
+    ring_imaginary: &mut [f32; PLACES],
+    row_real: &mut [f32; ROW],
+    row_imaginary: &mut [f32; ROW],
 ) -> Fronted
-    requires { ⌜ Ready place ⌝ }
+    requires { ⌜ Admitted place ⌝ }
     requires { ⌜ Numbers (now samples) ⌝ }
     requires { ⌜ 32 * place .resampler .arm ≤ length (now table) ⌝ }
     requires { ⌜ place .resampler .index + (length (now samples) / 2 - from) ≤ 2 ^ 52 ⌝ }
     requires { ⌜ from ≤ length (now samples) / 2 ⌝ }
-    ensures same { λ r. ⌜ _≡_ {A = Front} (frontNow r from (now («ring_real» .exit)) (now («ring_imaginary» .exit)) (now («row_real» .exit)) (now («row_imaginary» .exit)))
-        (filledOf conjugated (now (table .entry)) (now (samples .entry)) (frontNow (startOf place) from (now («ring_real» .entry)) (now («ring_imaginary» .entry)) (now («row_real» .entry)) (now («row_imaginary» .entry)))) ⌝ }
-    ensures kept { λ r. ⌜ Kept (length (now (samples .entry)) / 2 - from) place r ⌝ }
+    ensures same { λ r. ⌜ leaves from (startOf place) r «ring_real» «ring_imaginary» «row_real» «row_imaginary»
+        (λ before after. after ≡ filledOf conjugated (now (table .entry)) (now (samples .entry)) before) ⌝ }
+    ensures kept { λ r. ⌜ CallKeeps (length (now (samples .entry)) / 2 - from) place r ⌝ }
 {
     let end = samples.len() / 2;
     let mut t = Fronted {
@@ -317,7 +338,7 @@ pub fn front(
     };
     while from + t.used < end {
         let made = t.made;
-        if 254 < made {
+        if ROOM < made {
             break;
         }
         t = advance(

@@ -1,7 +1,8 @@
--- The mixer: the oscillator's turn, and the sample times the oscillator, in the Rust's order. Definitions only.
-use Prim.Native.Nat.{_+_}
-use mathlib.Core.Bool.{Bool, cond, not}
-use lib.Dec.{T, eqb}
+-- The mixer: the oscillator's turn, and the sample times the oscillator, in the Rust's order of operations. Definitions only.
+use Prim.Native.Nat.{_+_, _<_}
+use mathlib.Core.Bool.{Bool, false, cond, not}
+use lib.Dec.{T, eqb, ltb}
+use lib.IntN.{ℤ, pos, negsuc}
 use lib.Ieee.{Float, binary64, ofBits, add, sub, mul, div, neg, isNan}
 use Rattle.numbers.specs.Root.{sqrtOf}
 use Rattle.routines.specs.Circle.{sineOf, cosineOf}
@@ -11,19 +12,41 @@ use Rattle.complex.specs.declared.Complex64.{Complex64}
 use Rattle.oscillator.specs.declared.Oscillator.{Oscillator}
 use Rattle.oscillator.specs.declared.Step.{Step}
 
--- `-2.0 * PI * offset / rate`
-abbrev pub angleOf : Float → Float → Float
-angleOf rate offset = div binary64 (mul binary64 (mul binary64 (ofBits binary64 0xc000000000000000) (ofBits binary64 0x400921fb54442d18)) offset) rate
+abbrev pub zero64 : Float
+zero64 = ofBits binary64 0x0000_0000_0000_0000  -- 0
 
--- at 1, to turn by the angle
-abbrev pub freshOscillator : Float → Float → Oscillator
-freshOscillator rate offset = record {
-  real = ofBits binary64 0x3ff0000000000000;
-  imaginary = ofBits binary64 0;
+abbrev pub one64 : Float
+one64 = ofBits binary64 0x3ff0_0000_0000_0000  -- 1
+
+abbrev pub minusTwo64 : Float
+minusTwo64 = ofBits binary64 0xc000_0000_0000_0000  -- -2
+
+abbrev pub pi64 : Float
+pi64 = ofBits binary64 0x4009_21fb_5444_2d18  -- 3.141592653589793
+
+-- the angle of a step: -2 pi offset / rate
+abbrev pub angleOf : Float → Float → Float
+angleOf rate offset = div binary64 (mul binary64 (mul binary64 minusTwo64 pi64) offset) rate
+
+-- starts at 1, and turns by the angle a sample
+abbrev pub freshOf : Float → Float → Oscillator
+freshOf rate offset = record {
+  real = one64;
+  imaginary = zero64;
   «step_real» = cosineOf (angleOf rate offset);
   «step_imaginary» = sineOf (angleOf rate offset);
   renormalize = 0;
 }
+
+-- ---- may this oscillator be run: fewer than 4,096 turns since it was brought to size 1
+abbrev pub admittedOf : Oscillator → Bool
+admittedOf o = ltb (o .renormalize) 4096
+
+-- the same as a fact
+pub record Admitted (o : Oscillator) : Type 0 where
+  pub renormalize-in : o .renormalize < 4096
+
+-- ---- the turn
 
 -- the oscillator times its step
 abbrev pub movedOf : Oscillator → Oscillator
@@ -46,21 +69,30 @@ renormalizedOf o = record { real = div binary64 (o .real) (sizeOf o); imaginary 
 unfoldable pub turnedOf : Oscillator → Oscillator
 turnedOf o = cond (eqb (o .renormalize + 1) 4096) (renormalizedOf (movedOf o)) (movedOf o)
 
+-- ---- a sample
+
 -- no part is NaN: a block with such a sample is refused
 pub record Number (s : Complex32) : Type 0 where
   pub real : T (not (isNan (s .real)))
   pub imaginary : T (not (isNan (s .imaginary)))
 
--- an f32 is the same value as an f64; profile 1 takes the conjugate
-unfoldable pub signedBy : Bool → Float → Float
-signedBy conjugated x = cond conjugated (neg x) x
+-- the samples of profile 1 alone are conjugated, which mirrors their spectrum about 0 hertz; every other number acts as profile 0
+abbrev pub conjugatedOf : ℤ → Bool
+conjugatedOf (pos n) = eqb n 1
+conjugatedOf (negsuc n) = false
 
+-- the imaginary part, negated where the sample is conjugated
+unfoldable pub mirroredOf : Bool → Float → Float
+mirroredOf conjugated x = cond conjugated (neg x) x
+
+-- the sample times the oscillator: an f32 is the same value as an f64
 abbrev pub productOf : Oscillator → Complex32 → Bool → Complex64
 productOf o s conjugated = record {
   real = sub binary64 (mul binary64 (s .real) (o .real)) (mul binary64 (s .imaginary) (o .imaginary));
-  imaginary = signedBy conjugated (add binary64 (mul binary64 (s .real) (o .imaginary)) (mul binary64 (s .imaginary) (o .real)));
+  imaginary = mirroredOf conjugated (add binary64 (mul binary64 (s .real) (o .imaginary)) (mul binary64 (s .imaginary) (o .real)));
 }
 
+-- each part rounded to f32 once
 abbrev pub mixedOf : Oscillator → Complex32 → Bool → Complex32
 mixedOf o s conjugated = narrowedOf (productOf o s conjugated)
 

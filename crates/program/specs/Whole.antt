@@ -11,7 +11,7 @@ use lib.Seq.{take-at}
 use lib.Ieee.{Float, binary32, binary64, ofBits, ofInt, toUnsigned, add, mul, div, lt, le}
 use borrow.Author.Tests.{le-ltb}
 use Rattle.numbers.specs.Numbers.{wholeOf, absOf, isFinite}
-use Rattle.resampler.specs.Dimensions.{decimationOf, decimatedOf, armOf, sizedOf}
+use Rattle.resampler.specs.Dimensions.{decimationOf, decimatedOf, armLengthOf, sizedOf}
 use Rattle.resampler.specs.Design as design
 use Rattle.admission.specs.declared.state.Receiver.{Receiver}
 use Rattle.admission.specs.State.{zero64, zeroReceiver, freshFront, freshReceiver}
@@ -71,7 +71,7 @@ unfolding offsetRefused isFinite absOf ofBits le div add
 offset-passes = refl
 
 arm-is : sizedOf rate .arm ≡ 72
-unfolding sizedOf decimationOf decimatedOf armOf wholeOf mul div ofInt ofBits toUnsigned
+unfolding sizedOf decimationOf decimatedOf armLengthOf wholeOf mul div ofInt ofBits toUnsigned
 arm-is = refl
 
 abbrev fresh : Receiver

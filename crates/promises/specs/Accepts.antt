@@ -130,7 +130,7 @@ module _ (r : Receiver) (table xs : List Float) (ds rs : List ℕ) (t : Typed r)
   before = record { rung = startOf r ds rs .rung; values = [] }
 
   ran : steps.Ran (countOf xs) before (front.frontOf conjugated table xs (countOf xs) before)
-  ran = steps.ran conjugated table xs (countOf xs) before (record { ready = asks .ready; stored = t .next }) (asks .index-in)
+  ran = steps.ran conjugated table xs (countOf xs) before (record { admitted = asks .ready; stored = t .next }) (asks .index-in)
 
   left : Left (2 * countOf xs) (startOf r ds rs .lent .state) (startOf r ds rs .lent .room) (wholeOf conjugated table xs (startOf r ds rs) .lent)
   unfolding wholeOf

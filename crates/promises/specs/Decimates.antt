@@ -18,20 +18,21 @@ use Rattle.numbers.specs.Numbers.{wholeOf, absOf, isFinite}
 use Rattle.complex.specs.declared.Complex32.{Complex32}
 use Rattle.complex.specs.Complex.{zeroPair}
 use Rattle.oscillator.specs.declared.Oscillator.{Oscillator}
-use Rattle.oscillator.specs.Oscillator.{freshOscillator, turnedOf, mixedOf}
+use Rattle.oscillator.specs.Oscillator.{freshOf as freshOscillator, turnedOf, mixedOf}
 use Rattle.decimator.specs.declared.Decimator.{Decimator}
 use Rattle.decimator.specs.declared.Output.{Output}
 use Rattle.decimator.specs.declared.Output.the-variants.{Nothing, Value}
 use Rattle.decimator.specs.declared.Counts.{Counts}
-use Rattle.decimator.specs.declared.Answer.the-variants.{Silent, Sum}
-use Rattle.decimator.specs.Decimator.{countsOf, freshOf, scaledOf, answersOf, outputOf, steppedOf, outputsOf}
+use Rattle.decimator.specs.declared.RawOutput.the-variants.{Silent, Sum}
+use Rattle.decimator.specs.Decimator.{Counting, countsOf, freshOf, scaledOf, rawOutputsOf, outputOf, steppedOf, outputsOf}
 use Rattle.decimator.specs.Demand.{ago, sumsAt}
 use Rattle.decimator.specs.Part.{Words}
 use Rattle.decimator.specs.Theorem.{decimates-at, wrappedSums, demanded-sum, demanded-silent, Within, decimates-exactly, recovers}
-use Rattle.decimator.specs.Values.{Ready, fresh-ready, outputs-above, outputs-through, outputs-forget}
-use Rattle.resampler.specs.Dimensions.{decimationOf, decimatedOf, armOf, sizedOf}
-use Rattle.resampler.specs.Front.{hearing, heard}
-use Rattle.resampler.specs.Ranges.{Sized, sized-in}
+use Rattle.decimator.specs.Values.{fresh-counting, outputs-above, outputs-through, outputs-forget}
+use Rattle.resampler.specs.Dimensions.{decimationOf, decimatedOf, armLengthOf, sizedOf}
+use Rattle.front.specs.Resample.{resampleState, resampleValues}
+use Rattle.resampler.specs.Admitted.{Sized}
+use Rattle.resampler.specs.Ranges.{sized-in}
 use Rattle.front.specs.Front as front
 use Rattle.taps.specs.Taps.{bothTables}
 use Rattle.sequence.specs.declared.soft.Slot.{Slot}
@@ -186,20 +187,20 @@ given-is r (c ∷ cs) = elim (answered r c) [
 ]
 
 -- and that is what the resampler takes: its place, its ring and the values that it makes go on by it and by nothing else
-pub hears : (r : Receiver) (c : Call) (k : ℕ) → front.ringOf (rungBefore r c (suc k)) ≡ hearing (c .table) (front.ringOf (rungBefore r c k)) (givenAt r c k)
+pub hears : (r : Receiver) (c : Call) (k : ℕ) → front.ringOf (rungBefore r c (suc k)) ≡ resampleState (c .table) (front.ringOf (rungBefore r c k)) (givenAt r c k)
 unfolding front.frontOf turns front.more front.frontStep
 hears r c k = refl
 
 pub makes : (r : Receiver) (c : Call) (k : ℕ)
     → frontAt (conjugates (r .chain .profile)) (c .table) (c .samples) (startOf r (c .dibits) (c .reliabilities)) (suc k) .values
-    ≡ frontAt (conjugates (r .chain .profile)) (c .table) (c .samples) (startOf r (c .dibits) (c .reliabilities)) k .values ++ heard (c .table) (front.ringOf (rungBefore r c k)) (givenAt r c k)
+    ≡ frontAt (conjugates (r .chain .profile)) (c .table) (c .samples) (startOf r (c .dibits) (c .reliabilities)) k .values ++ resampleValues (c .table) (front.ringOf (rungBefore r c k)) (givenAt r c k)
 unfolding front.frontOf turns front.more front.frontStep
 makes r c k = refl
 
 -- at d above 1 the outputs to mixed samples are the scaled answers to them quantised
-answered-at : (d : ℕ) → 1 < d → (t : Decimator) → Ready d t → (zs : List Complex32) (n : ℕ) → getD (outputsOf t zs) n Nothing ≡ outputOf d (getD (answersOf t (map countsOf zs)) n Silent)
+answered-at : (d : ℕ) → 1 < d → (t : Decimator) → Counting d t → (zs : List Complex32) (n : ℕ) → getD (outputsOf t zs) n Nothing ≡ outputOf d (getD (rawOutputsOf t (map countsOf zs)) n Silent)
 unfolding outputOf
-answered-at d D t k zs n = ap (λ (os : List Output). getD os n Nothing) (outputs-above d D t k zs) ∙ List·getD-map (outputOf d) (answersOf t (map countsOf zs)) n Silent
+answered-at d D t k zs n = ap (λ (os : List Output). getD os n Nothing) (outputs-above d D t k zs) ∙ List·getD-map (outputOf d) (rawOutputsOf t (map countsOf zs)) n Silent
 
 -- samples that agree, mixed
 pub mixed-same : (conjugated : Bool) (o : Oscillator) (none : Complex32) (xs ys : List Complex32) (i : ℕ) → i < length xs → i < length ys → getD xs i none ≡ getD ys i none
@@ -248,8 +249,8 @@ module _ (rate offset : Float) (profile : ℤ) (table : List Float) where
       inside : n < length (quantised cs)
       inside = let a = length-map (mixed cs) countsOf in let b = mixed-all cs in omega arith
 
-      given-at : getD (givenOf fresh cs) n Nothing ≡ outputOf d (getD (answersOf (freshOf d) (quantised cs)) n Silent)
-      given-at = ap (λ (os : List Output). getD os n Nothing) (given-fresh cs) ∙ answered-at d D (freshOf d) (fresh-ready d (omega arith)) (mixed cs) n
+      given-at : getD (givenOf fresh cs) n Nothing ≡ outputOf d (getD (rawOutputsOf (freshOf d) (quantised cs)) n Silent)
+      given-at = ap (λ (os : List Output). getD os n Nothing) (given-fresh cs) ∙ answered-at d D (freshOf d) (fresh-counting d (omega arith)) (mixed cs) n
 
       -- every d-th sample gives an output
       pub sounds : (n + 1) % d ≡ 0 → getD (givenOf fresh cs) n Nothing ≡ Value (scaledOf d (wrappedSums d (quantised cs) n))
@@ -296,7 +297,7 @@ unfolding offsetRefused isFinite absOf ofBits le div add
 p9-offset = refl
 
 pub p9-sizes : (sizedOf p9 .decimation ≡ 2) × (sizedOf p9 .arm ≡ 288)
-unfolding sizedOf decimationOf decimatedOf armOf wholeOf mul div ofInt ofBits toUnsigned
+unfolding sizedOf decimationOf decimatedOf armLengthOf wholeOf mul div ofInt ofBits toUnsigned
 p9-sizes = (refl, refl)
 
 pub p9-decimates : (profile : ℤ) (table : List Float) → 9216 ≤ length table → (setupOf p9 zero64 profile table .number ≡ 0) × (sizedOf p9 .decimation ≡ 2)

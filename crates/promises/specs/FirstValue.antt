@@ -19,9 +19,9 @@ use Rattle.decimator.specs.declared.Output.the-variants.{Nothing, Value}
 use Rattle.decimator.specs.Decimator.{freshOf}
 use Rattle.resampler.specs.declared.pass.Delivery.{Delivery}
 use Rattle.resampler.specs.Dimensions as resampler
-use Rattle.resampler.specs.Front.{Heard, hearing, heard}
-use Rattle.resampler.specs.Pass.{placeOf, waits, filteredOf, startOf, isDone, passTurn, deliveredOf, pushedOf, resampledOf}
-use Rattle.resampler.specs.Ready.{count-emitted}
+use Rattle.front.specs.Resample.{ResamplerState, resampleState, resampleValues}
+use Rattle.resampler.specs.Pass.{placedOf, waitingOf, filteredOf, startOf, isDone, passTurn, deliveredOf, pushedOf, resampledOf}
+use Rattle.resampler.specs.AdmittedLaws.{count-emitted}
 use Rattle.admission.specs.declared.state.Receiver.{Receiver}
 use Rattle.admission.specs.State.{zero64, freshReceiver}
 use Rattle.promises.specs.Tables.{setup-fresh}
@@ -36,22 +36,22 @@ use Rattle.promises.specs.Witness.{rate, lent, receiver, silence, setup-
 abbrev first-place : Float
 first-place = ofInt binary64 (pos 144)
 
-record Filling (j : ℕ) (h : Heard) : Type 0 where
+record Filling (j : ℕ) (h : ResamplerState) : Type 0 where
   arm : h .resampler .arm ≡ 288
   half : h .resampler .half ≡ 144
   index : h .resampler .index ≡ j
   next : h .resampler .next ≡ first-place
 
-first-position : placeOf first-place .position ≡ 144
-unfolding placeOf wholeOf toUnsigned ofInt sub mul ofBits
+first-position : placedOf first-place .position ≡ 144
+unfolding placedOf wholeOf toUnsigned ofInt sub mul ofBits
 first-position = refl
 
 -- a value into it waits where there are still fewer than 288
-value-waits : (j : ℕ) (h : Heard) → Filling j h → waits (pushedOf (h .resampler)) (placeOf (h .resampler .next)) ≡ ltb (j + 1) 288
-value-waits j h k = (λ i. ltb (k .index i + 1) (placeOf (k .next i) .position + (k .arm i - k .half i))) ∙ ap (λ (p : ℕ). ltb (j + 1) (p + (288 - 144))) first-position
+value-waits : (j : ℕ) (h : ResamplerState) → Filling j h → waitingOf (pushedOf (h .resampler)) (placedOf (h .resampler .next)) ≡ ltb (j + 1) 288
+value-waits j h k = (λ i. ltb (k .index i + 1) (placedOf (k .next i) .position + (k .arm i - k .half i))) ∙ ap (λ (p : ℕ). ltb (j + 1) (p + (288 - 144))) first-position
 
-fills : (j : ℕ) (h : Heard) (v : Complex32) → j + 1 < 288 → Filling j h → Filling (j + 1) (hearing [] h (Value v))
-unfolding hearing resampledOf deliveredOf
+fills : (j : ℕ) (h : ResamplerState) (v : Complex32) → j + 1 < 288 → Filling j h → Filling (j + 1) (resampleState [] h (Value v))
+unfolding resampleState resampledOf deliveredOf
 fills j h v l k =
     let q = pushedOf (h .resampler) in
     let xs = set (h .real) (h .resampler .write) (v .real) in
@@ -59,8 +59,8 @@ fills j h v l k =
     let e = until-stop (isDone q) (passTurn q [] xs ys) 2 (startOf (q .next)) (value-waits j h k ∙ lt-ltb (j + 1) 288 l) in
     record { arm = k .arm; half = k .half; index = ap (λ (n : ℕ). n + 1) (k .index); next = ap (λ (d : Delivery). d .next) e ∙ k .next }
 
-stays : (j : ℕ) (h : Heard) → Filling j h → Filling j (hearing [] h Nothing)
-unfolding hearing
+stays : (j : ℕ) (h : ResamplerState) → Filling j h → Filling j (resampleState [] h Nothing)
+unfolding resampleState
 stays j h k = k
 
 -- the 288th makes a value
@@ -76,29 +76,29 @@ first-of : (n : ℕ) (a b : Complex32) → 0 < n → (v : Complex32) × ((vs : L
 first-of zero a b l = absurd (omega arith)
 first-of (suc n) a b l = (a, (take n (b ∷ []), refl))
 
-value-made : (table : List Float) (h : Heard) (v : Complex32) → Filling 287 h → (w : Complex32) × ((ws : List Complex32) × (heard table h (Value v) ≡ w ∷ ws))
-unfolding heard resampledOf deliveredOf
+value-made : (table : List Float) (h : ResamplerState) (v : Complex32) → Filling 287 h → (w : Complex32) × ((ws : List Complex32) × (resampleValues table h (Value v) ≡ w ∷ ws))
+unfolding resampleValues resampledOf deliveredOf
 value-made table h v k =
     let q = pushedOf (h .resampler) in
     let xs = set (h .real) (h .resampler .write) (v .real) in
     let ys = set (h .imaginary) (h .resampler .write) (v .imaginary) in
     let d = until (isDone q) (passTurn q table xs ys) 2 (startOf (q .next)) in
     first-of (d .count) (d .first) (d .second)
-    (some-made (isDone q) (passTurn q table xs ys) (startOf (q .next)) (λ e. count-emitted e (q .step) (filteredOf q table xs ys (placeOf (e .next) .phase))) (value-waits 287 h k ∙ le-ltb (287 + 1) 288 (omega arith)))
+    (some-made (isDone q) (passTurn q table xs ys) (startOf (q .next)) (λ e. count-emitted e (q .step) (filteredOf q table xs ys (placedOf (e .next) .phase))) (value-waits 287 h k ∙ le-ltb (287 + 1) 288 (omega arith)))
 
 -- ---- along a row with a value at every second place
-module _ (os : List Output) (P : Paced 2 0 os) (h : Heard) (k : Filling 0 h) where
+module _ (os : List Output) (P : Paced 2 0 os) (h : ResamplerState) (k : Filling 0 h) where
   filling-at : (n : ℕ) → n ≤ length os → n < 576 → Filling (n / 2) (ringAfter h os n)
   unfolding turns
   filling-at zero a b = subst (λ (j : ℕ). Filling j h) (let e : 0 ≡ 0 / 2 = omega arith in e) k
   filling-at (suc n) a b = elim (eq-zero-or-pos ((0 + n + 1) % 2)) [
     | inl e ↦
         let o = P .sounds n (omega arith) e in
-        subst (λ (j : ℕ). Filling j (hearing [] (ringAfter h os n) (getD os n Nothing))) (let f : n / 2 + 1 ≡ suc n / 2 = omega arith in f)
-        (subst (λ (x : Output). Filling (n / 2 + 1) (hearing [] (ringAfter h os n) x)) (sym (o .1)) (fills (n / 2) (ringAfter h os n) (o .0) (omega arith) (filling-at n (omega arith) (omega arith))))
+        subst (λ (j : ℕ). Filling j (resampleState [] (ringAfter h os n) (getD os n Nothing))) (let f : n / 2 + 1 ≡ suc n / 2 = omega arith in f)
+        (subst (λ (x : Output). Filling (n / 2 + 1) (resampleState [] (ringAfter h os n) x)) (sym (o .1)) (fills (n / 2) (ringAfter h os n) (o .0) (omega arith) (filling-at n (omega arith) (omega arith))))
     | inr p ↦
-        subst (λ (j : ℕ). Filling j (hearing [] (ringAfter h os n) (getD os n Nothing))) (let f : n / 2 ≡ suc n / 2 = omega arith in f)
-        (subst (λ (x : Output). Filling (n / 2) (hearing [] (ringAfter h os n) x)) (sym (P .quiet n (omega arith) (λ e. omega arith))) (stays (n / 2) (ringAfter h os n) (filling-at n (omega arith) (omega arith))))
+        subst (λ (j : ℕ). Filling j (resampleState [] (ringAfter h os n) (getD os n Nothing))) (let f : n / 2 ≡ suc n / 2 = omega arith in f)
+        (subst (λ (x : Output). Filling (n / 2) (resampleState [] (ringAfter h os n) x)) (sym (P .quiet n (omega arith) (λ e. omega arith))) (stays (n / 2) (ringAfter h os n) (filling-at n (omega arith) (omega arith))))
   ]
 
 -- ---- from the setup
@@ -129,4 +129,4 @@ first-value =
     let o = P .sounds 575 (omega arith) refl in
     let k = filling-at os P (ringIn receiver) starts 575 (omega arith) (omega arith) in
     let m = value-made (getD (tablesOf receiver cs) 575 []) (ringAfter (ringIn receiver) os 575) (o .0) k in
-    (m .0, (m .1 .0, made-at receiver cs 575 (omega arith) ∙ ap (heard (getD (tablesOf receiver cs) 575 []) (ringAfter (ringIn receiver) os 575)) (o .1) ∙ m .1 .1))
+    (m .0, (m .1 .0, made-at receiver cs 575 (omega arith) ∙ ap (resampleValues (getD (tablesOf receiver cs) 575 []) (ringAfter (ringIn receiver) os 575)) (o .1) ∙ m .1 .1))

@@ -20,12 +20,12 @@ use Rattle.complex.specs.Complex.{zeroPair}
 use Rattle.decimator.specs.declared.Output.{Output}
 use Rattle.decimator.specs.declared.Output.the-variants.{Nothing, Value}
 use Rattle.decimator.specs.declared.Counts.{Counts}
-use Rattle.decimator.specs.Decimator.{quantiseOf, countsOf, scaledOf}
+use Rattle.decimator.specs.Decimator.{quantisedOf, countsOf, scaledOf}
 use Rattle.decimator.specs.Demand.{noCounts, ago, wrapped}
 use Rattle.decimator.specs.Boxes.{weighted-same}
 use Rattle.decimator.specs.Theorem.{wrappedSums}
 use Rattle.decimator.specs.Values.{outputs-through}
-use Rattle.resampler.specs.Forgets.{Like}
+use Rattle.front.specs.FiltersForget.{Like}
 use Rattle.resampler.specs.Dimensions.{sizedOf}
 use Rattle.front.specs.Front as front
 use Rattle.labels.specs.Labels.{conjugates}
@@ -99,7 +99,7 @@ value-at (z ∷ zs) zero l = refl
 value-at (z ∷ zs) (suc n) l = value-at zs n (omega arith)
 
 zero-counts : countsOf zeroPair ≡ noCounts
-unfolding quantiseOf wholeOf mul ofBits toSigned
+unfolding quantisedOf wholeOf mul ofBits toSigned
 zero-counts = refl
 
 counts-at : (zs : List Complex32) (n a : ℕ) → a ≤ n → ago (map countsOf zs) n a ≡ countsOf (getD zs (n - a) zeroPair)

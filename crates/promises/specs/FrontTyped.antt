@@ -18,7 +18,7 @@ use Rattle.decimator.specs.declared.Output.the-variants.{Nothing, Value}
 use Rattle.decimator.specs.Decimator.{modulo, integratedOf, advancedOf, countsOf, freshOf, steppedOf}
 use Rattle.decimator.specs.Part.{Words}
 use Rattle.oscillator.specs.Oscillator.{mixedOf}
-use Rattle.resampler.specs.Front.{Heard, hearing}
+use Rattle.front.specs.Resample.{ResamplerState, resampleState}
 use Rattle.resampler.specs.Pass.{resampledOf}
 use Rattle.resampler.specs.Dimensions.{sizedOf}
 use Rattle.resampler.specs.Dimensions as resampler
@@ -90,8 +90,8 @@ step-words s z a b = go (ltb 1 (s .decimation)) (ltb (s .counter + 1) (s .decima
     go true false e f = rw (e, f) (x, y)
     go false c e f = rw e (a, b)
 
-heard-size : (table : List Float) (h : Heard) (o : Output) → (length (hearing table h o .real) ≡ length (h .real)) × (length (hearing table h o .imaginary) ≡ length (h .imaginary))
-unfolding hearing resampledOf
+heard-size : (table : List Float) (h : ResamplerState) (o : Output) → (length (resampleState table h o .real) ≡ length (h .real)) × (length (resampleState table h o .imaginary) ≡ length (h .imaginary))
+unfolding resampleState resampledOf
 heard-size table h Nothing = (refl, refl)
 heard-size table h (Value v) = (length-set (h .real) (h .resampler .write) (v .real), length-set (h .imaginary) (h .resampler .write) (v .imaginary))
 

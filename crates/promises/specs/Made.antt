@@ -6,7 +6,7 @@ use lib.Dec.{eqb}
 use lib.Ieee.{Float}
 use Rattle.laws.specs.Places.{upto}
 use Rattle.complex.specs.declared.Complex32.{Complex32}
-use Rattle.resampler.specs.Front.{heard}
+use Rattle.front.specs.Resample.{resampleValues}
 use Rattle.front.specs.Front as front
 use Rattle.admission.specs.declared.state.Receiver.{Receiver}
 use Rattle.samples.specs.Samples.{countOf}
@@ -14,7 +14,7 @@ use Rattle.promises.specs.Taken.{Call, answeredOf, rungBefore, givenAt}
 
 -- the values that the resampler makes of sample k of a call: none, one or two
 abbrev pub madeAt : Receiver → Call → ℕ → List Complex32
-madeAt r c k = heard (c .table) (front.ringOf (rungBefore r c k)) (givenAt r c k)
+madeAt r c k = resampleValues (c .table) (front.ringOf (rungBefore r c k)) (givenAt r c k)
 
 -- of each sample taken
 unfoldable pub madeOf : Receiver → List Call → List (List Complex32)

@@ -22,10 +22,12 @@ use Rattle.decimator.specs.declared.Output.{Output}
 use Rattle.decimator.specs.declared.Output.the-variants.{Nothing, Value}
 use Rattle.decimator.specs.declared.Step.{Step}
 use Rattle.decimator.specs.Decimator.{countsOf, scaledOf, absorbedOf, silentOf, soundedOf, releasedOf, advancedOf, outputOf, steppedOf, outputsOf}
-use Rattle.decimator.specs.Values.{Ready, step-above, step-through, step-ready, outputs-length}
-use Rattle.resampler.specs.Front.{Heard, hearing, heard}
+use Rattle.decimator.specs.Decimator.{Counting}
+use Rattle.decimator.specs.Values.{step-above, step-through, step-counting, outputs-length}
+use Rattle.front.specs.Resample.{ResamplerState, resampleState, resampleValues}
 use Rattle.resampler.specs.Pass.{pushedOf, resampledOf}
-use Rattle.resampler.specs.Forgets.{Like, next-same, like-other, like-more, heard-same}
+use Rattle.resampler.specs.Forgets.{next-same}
+use Rattle.front.specs.FiltersForget.{Like, like-other, like-more, values-same}
 use Rattle.front.specs.Front as front
 use Rattle.labels.specs.Labels.{conjugates}
 use Rattle.admission.specs.declared.state.Receiver.{Receiver}
@@ -41,8 +43,8 @@ use Rattle.promises.specs.Decimates.{mixed-length, answered, given-is, h
 use Rattle.promises.specs.Made.{madeAt, madeOf, tablesOf}
 
 -- ---- the table decides the values that are made, and nothing of the ring
-hears-by-any : (table other : List Float) (h : Heard) (o : Output) → hearing table h o ≡ hearing other h o
-unfolding hearing resampledOf
+hears-by-any : (table other : List Float) (h : ResamplerState) (o : Output) → resampleState table h o ≡ resampleState other h o
+unfolding resampleState resampledOf
 hears-by-any table other h Nothing = refl
 hears-by-any table other h (Value v) =
     let q = pushedOf (h .resampler) in
@@ -55,20 +57,20 @@ hears-by-any table other h (Value v) =
     }
 
 -- the ring of a state, and after the first n of a row of outputs
-abbrev pub ringIn : Receiver → Heard
+abbrev pub ringIn : Receiver → ResamplerState
 ringIn r = front.ringOf (startOf r [] [] .rung)
 
-abbrev pub ringAfter : Heard → List Output → ℕ → Heard
-ringAfter h os n = turns (λ (i : ℕ) (g : Heard). hearing [] g (getD os i Nothing)) n h
+abbrev pub ringAfter : ResamplerState → List Output → ℕ → ResamplerState
+ringAfter h os n = turns (λ (i : ℕ) (g : ResamplerState). resampleState [] g (getD os i Nothing)) n h
 
-ring-first : (h : Heard) (os ps : List Output) (n : ℕ) → n ≤ length os → ringAfter h (os ++ ps) n ≡ ringAfter h os n
-ring-first h os ps n l = turns-same _ _ n h (λ k g m. ap (hearing [] g) (List·getD-append os ps Nothing k (omega arith)))
+ring-first : (h : ResamplerState) (os ps : List Output) (n : ℕ) → n ≤ length os → ringAfter h (os ++ ps) n ≡ ringAfter h os n
+ring-first h os ps n l = turns-same _ _ n h (λ k g m. ap (resampleState [] g) (List·getD-append os ps Nothing k (omega arith)))
 
-ring-second : (h : Heard) (os ps : List Output) (n : ℕ) → ringAfter h (os ++ ps) (length os + n) ≡ ringAfter (ringAfter h os (length os)) ps n
+ring-second : (h : ResamplerState) (os ps : List Output) (n : ℕ) → ringAfter h (os ++ ps) (length os + n) ≡ ringAfter (ringAfter h os (length os)) ps n
 ring-second h os ps n =
-    sym (turns-plus (λ (i : ℕ) (g : Heard). hearing [] g (getD (os ++ ps) i Nothing)) (length os) n h)
-    ∙ turns-same _ _ n (ringAfter h (os ++ ps) (length os)) (λ k g m. ap (hearing [] g) (getD-append-add os ps k Nothing))
-    ∙ ap (λ (g : Heard). ringAfter g ps n) (ring-first h os ps (length os) (omega arith))
+    sym (turns-plus (λ (i : ℕ) (g : ResamplerState). resampleState [] g (getD (os ++ ps) i Nothing)) (length os) n h)
+    ∙ turns-same _ _ n (ringAfter h (os ++ ps) (length os)) (λ k g m. ap (resampleState [] g) (getD-append-add os ps k Nothing))
+    ∙ ap (λ (g : ResamplerState). ringAfter g ps n) (ring-first h os ps (length os) (omega arith))
 
 -- ---- within a call
 flatten-more : {A : Type 0} (ls : List (List A)) (l : List A) → flatten (ls ++ (l ∷ [])) ≡ flatten ls ++ l
@@ -80,7 +82,7 @@ ring-call : (r : Receiver) (c : Call) (k n : ℕ) → n ≤ k → ringAfter (rin
 unfolding turns
 ring-call r c k zero l = unfold front.frontOf in refl
 ring-call r c k (suc n) l =
-    (λ i. hearing [] (ring-call r c k n (omega arith) i) (upto-at (givenAt r c) k n Nothing (omega arith) i))
+    (λ i. resampleState [] (ring-call r c k n (omega arith) i) (upto-at (givenAt r c) k n Nothing (omega arith) i))
     ∙ hears-by-any [] (c .table) (front.ringOf (rungBefore r c n)) (givenAt r c n)
     ∙ sym (hears r c n)
 
@@ -94,28 +96,28 @@ pub made-in-order : (r : Receiver) (c : Call) → valuesOf r (c .table) (c .samp
 made-in-order r c = made-so-far r c (countOf (c .samples))
 
 -- ---- all calls: what is made of each sample, where two rows of them stand one after the other
-module _ (us us' : List (List Complex32)) (ts ts' : List (List Float)) (os os' : List Output) (h g : Heard) where
-  abbrev Made : List (List Complex32) → List (List Float) → Heard → List Output → ℕ → Type 0
-  Made vs tables ring outputs n = getD vs n [] ≡ heard (getD tables n []) (ringAfter ring outputs n) (getD outputs n Nothing)
+module _ (us us' : List (List Complex32)) (ts ts' : List (List Float)) (os os' : List Output) (h g : ResamplerState) where
+  abbrev Made : List (List Complex32) → List (List Float) → ResamplerState → List Output → ℕ → Type 0
+  Made vs tables ring outputs n = getD vs n [] ≡ resampleValues (getD tables n []) (ringAfter ring outputs n) (getD outputs n Nothing)
 
   made-first : (n : ℕ) → n < length us → n < length ts → n < length os → Made us ts h os n → Made (us ++ us') (ts ++ ts') h (os ++ os') n
   made-first n a b c e =
       List·getD-append us us' [] n a
       ∙ e
-      ∙ sym (λ i. heard (List·getD-append ts ts' [] n b i) (ring-first h os os' n (omega arith) i) (List·getD-append os os' Nothing n c i))
+      ∙ sym (λ i. resampleValues (List·getD-append ts ts' [] n b i) (ring-first h os os' n (omega arith) i) (List·getD-append os os' Nothing n c i))
 
   made-second : (n k : ℕ) → length us ≡ k → length ts ≡ k → length os ≡ k → ringAfter h os (length os) ≡ g → Made us' ts' g os' n → Made (us ++ us') (ts ++ ts') h (os ++ os') (k + n)
   made-second n k a b c e f =
       ap (λ (j : ℕ). getD (us ++ us') (j + n) []) (sym a)
       ∙ getD-append-add us us' n []
       ∙ f
-      ∙ sym (λ i. heard
+      ∙ sym (λ i. resampleValues
       ((ap (λ (j : ℕ). getD (ts ++ ts') (j + n) []) (sym b) ∙ getD-append-add ts ts' n []) i)
-      ((ap (λ (j : ℕ). ringAfter h (os ++ os') (j + n)) (sym c) ∙ ring-second h os os' n ∙ ap (λ (r : Heard). ringAfter r os' n) e) i)
+      ((ap (λ (j : ℕ). ringAfter h (os ++ os') (j + n)) (sym c) ∙ ring-second h os os' n ∙ ap (λ (r : ResamplerState). ringAfter r os' n) e) i)
       ((ap (λ (j : ℕ). getD (os ++ os') (j + n) Nothing) (sym c) ∙ getD-append-add os os' n Nothing) i))
 
 -- what is made of sample n: by the table lent with it, of the ring that the outputs before it leave and of its own output
-pub made-at : (r : Receiver) (cs : List Call) (n : ℕ) → n < length (takenOf r cs) → getD (madeOf r cs) n [] ≡ heard (getD (tablesOf r cs) n []) (ringAfter (ringIn r) (givenOf r cs) n) (getD (givenOf r cs) n Nothing)
+pub made-at : (r : Receiver) (cs : List Call) (n : ℕ) → n < length (takenOf r cs) → getD (madeOf r cs) n [] ≡ resampleValues (getD (tablesOf r cs) n []) (ringAfter (ringIn r) (givenOf r cs) n) (getD (givenOf r cs) n Nothing)
 unfolding madeOf tablesOf givenOf takenOf front.samplesOf
 made-at r [] n l = absurd (omega arith)
 made-at r (c ∷ cs) n l = elim (answered r c) [
@@ -133,12 +135,12 @@ made-at r (c ∷ cs) n l = elim (answered r c) [
       (let a = length-append (upto (front.sampleAt (c .samples)) k) (takenOf after cs) in
       let b : n < length (upto (front.sampleAt (c .samples)) k ++ takenOf after cs) = subst (λ (y : Bool). n < length (takenWhere y c ++ takenOf after cs)) (t .accepted) l in
       omega arith) in
-      subst (λ (y : Bool). getD (cond y us [] ++ madeOf after cs) n [] ≡ heard (getD (cond y ts [] ++ tablesOf after cs) n []) (ringAfter (ringIn r) (cond y os [] ++ givenOf after cs) n) (getD (cond y os [] ++ givenOf after cs) n Nothing)) (sym (t .accepted))
+      subst (λ (y : Bool). getD (cond y us [] ++ madeOf after cs) n [] ≡ resampleValues (getD (cond y ts [] ++ tablesOf after cs) n []) (ringAfter (ringIn r) (cond y os [] ++ givenOf after cs) n) (getD (cond y os [] ++ givenOf after cs) n Nothing)) (sym (t .accepted))
       (⊎-elim
       (λ b. made-first us (madeOf after cs) ts (tablesOf after cs) os (givenOf after cs) (ringIn r) (ringIn after) n (omega arith) (omega arith) (omega arith)
-      (upto-at (madeAt r c) k n [] b ∙ sym (λ i. heard (upto-at (λ (i : ℕ). c .table) k n [] b i) (ring-call r c k n (omega arith) i) (upto-at (givenAt r c) k n Nothing b i))))
+      (upto-at (madeAt r c) k n [] b ∙ sym (λ i. resampleValues (upto-at (λ (i : ℕ). c .table) k n [] b i) (ring-call r c k n (omega arith) i) (upto-at (givenAt r c) k n Nothing b i))))
       (λ b.
-      subst (λ (j : ℕ). getD (us ++ madeOf after cs) j [] ≡ heard (getD (ts ++ tablesOf after cs) j []) (ringAfter (ringIn r) (os ++ givenOf after cs) j) (getD (os ++ givenOf after cs) j Nothing)) (let z : k + (n - k) ≡ n = omega arith in z)
+      subst (λ (j : ℕ). getD (us ++ madeOf after cs) j [] ≡ resampleValues (getD (ts ++ tablesOf after cs) j []) (ringAfter (ringIn r) (os ++ givenOf after cs) j) (getD (os ++ givenOf after cs) j Nothing)) (let z : k + (n - k) ≡ n = omega arith in z)
       (made-second us (madeOf after cs) ts (tablesOf after cs) os (givenOf after cs) (ringIn r) (ringIn after) (n - k) k e f g
       (ap (ringAfter (ringIn r) os) g ∙ ring-call r c k k (omega arith) ∙ sym (ap front.ringOf (t .moved)))
       (made-at after cs (n - k) (omega arith))))
@@ -146,9 +148,9 @@ made-at r (c ∷ cs) n l = elim (answered r c) [
   | inr t ↦
       let after = answeredOf r c .receiver in
       let k = countOf (c .samples) in
-      subst (λ (y : Bool). getD (cond y (upto (madeAt r c) k) [] ++ madeOf after cs) n [] ≡ heard (getD (cond y (upto (λ (i : ℕ). c .table) k) [] ++ tablesOf after cs) n []) (ringAfter (ringIn r) (cond y (upto (givenAt r c) k) [] ++ givenOf after cs) n) (getD (cond y (upto (givenAt r c) k) [] ++ givenOf after cs) n Nothing)) (sym (t .refused))
+      subst (λ (y : Bool). getD (cond y (upto (madeAt r c) k) [] ++ madeOf after cs) n [] ≡ resampleValues (getD (cond y (upto (λ (i : ℕ). c .table) k) [] ++ tablesOf after cs) n []) (ringAfter (ringIn r) (cond y (upto (givenAt r c) k) [] ++ givenOf after cs) n) (getD (cond y (upto (givenAt r c) k) [] ++ givenOf after cs) n Nothing)) (sym (t .refused))
       (made-at after cs n (subst (λ (y : Bool). n < length (takenWhere y c ++ takenOf after cs)) (t .refused) l)
-      ∙ ap (λ (u : Receiver). heard (getD (tablesOf after cs) n []) (ringAfter (ringIn u) (givenOf after cs) n) (getD (givenOf after cs) n Nothing)) (t .receiver))
+      ∙ ap (λ (u : Receiver). resampleValues (getD (tablesOf after cs) n []) (ringAfter (ringIn u) (givenOf after cs) n) (getD (givenOf after cs) n Nothing)) (t .receiver))
 ]
 
 -- only an admitted state takes samples
@@ -161,12 +163,12 @@ taken-admitted r (c ∷ cs) l = elim (answered r c) [
 ]
 
 -- ---- when a decimator sounds: a value at every d-th sample, counted from its last one, and nothing between
-module _ (d : ℕ) (s : Decimator) (z : Complex32) (k : Ready d s) where
+module _ (d : ℕ) (s : Decimator) (z : Complex32) (k : Counting d s) where
   abbrev sums : Integrators
   sums = absorbedOf (s .integrators) (countsOf z)
 
   abbrev finished : Bool → Step
-  finished b = let a : Advance = cond b (silentOf s sums) (soundedOf s sums) in record { decimator = a .decimator; output = outputOf (s .decimation) (a .answer) }
+  finished b = let a : Advance = cond b (silentOf s sums) (soundedOf s sums) in record { decimator = a .decimator; output = outputOf (s .decimation) (a .raw) }
 
   step-quiet : s .counter + 1 < d → (steppedOf s z .output ≡ Nothing) × (steppedOf s z .decimator .counter ≡ s .counter + 1)
   unfolding outputOf advancedOf
@@ -201,7 +203,7 @@ pub record Paced (d since : ℕ) (os : List Output) : Type 0 where
   pub sounds : (n : ℕ) → n < length os → (since + n + 1) % d ≡ 0 → (v : Complex32) × (getD os n Nothing ≡ Value v)
   pub quiet : (n : ℕ) → n < length os → ((since + n + 1) % d ≡ 0 → ⊥) → getD os n Nothing ≡ Nothing
 
-row-sounds : (d : ℕ) (s : Decimator) → Ready d s → (zs : List Complex32) (n : ℕ) → n < length zs → (s .counter + n + 1) % d ≡ 0 → (v : Complex32) × (getD (outputsOf s zs) n Nothing ≡ Value v)
+row-sounds : (d : ℕ) (s : Decimator) → Counting d s → (zs : List Complex32) (n : ℕ) → n < length zs → (s .counter + n + 1) % d ≡ 0 → (v : Complex32) × (getD (outputsOf s zs) n Nothing ≡ Value v)
 unfolding outputsOf
 row-sounds d s k [] n l e = absurd (omega arith)
 row-sounds d s k (z ∷ zs) zero l e =
@@ -209,9 +211,9 @@ row-sounds d s k (z ∷ zs) zero l e =
     (λ m. let f : (s .counter + 0 + 1) % d ≡ s .counter + 0 + 1 = mod-eq-of-lt (let g : s .counter + 0 + 1 < d = omega arith in g) in absurd (omega arith))
     (λ m. step-loud d s z k m .0)
     (lt-or-ge (s .counter + 1) d)
-row-sounds d s k (z ∷ zs) (suc n) l e = row-sounds d (steppedOf s z .decimator) (step-ready d s z k) zs n (omega arith) (counts-on d s z k n ∙ e)
+row-sounds d s k (z ∷ zs) (suc n) l e = row-sounds d (steppedOf s z .decimator) (step-counting d s z k) zs n (omega arith) (counts-on d s z k n ∙ e)
 
-row-quiet : (d : ℕ) (s : Decimator) → Ready d s → (zs : List Complex32) (n : ℕ) → n < length zs → ((s .counter + n + 1) % d ≡ 0 → ⊥) → getD (outputsOf s zs) n Nothing ≡ Nothing
+row-quiet : (d : ℕ) (s : Decimator) → Counting d s → (zs : List Complex32) (n : ℕ) → n < length zs → ((s .counter + n + 1) % d ≡ 0 → ⊥) → getD (outputsOf s zs) n Nothing ≡ Nothing
 unfolding outputsOf
 row-quiet d s k [] n l e = absurd (omega arith)
 row-quiet d s k (z ∷ zs) zero l e =
@@ -220,14 +222,14 @@ row-quiet d s k (z ∷ zs) zero l e =
     (λ m. step-quiet d s z k m .0)
     (λ m. absurd (e (ap (λ (j : ℕ). j % d) (let g : s .counter + 0 + 1 ≡ d = omega arith in g) ∙ mod-self d)))
     (lt-or-ge (s .counter + 1) d)
-row-quiet d s k (z ∷ zs) (suc n) l e = row-quiet d (steppedOf s z .decimator) (step-ready d s z k) zs n (omega arith) (λ f. e (sym (counts-on d s z k n) ∙ f))
+row-quiet d s k (z ∷ zs) (suc n) l e = row-quiet d (steppedOf s z .decimator) (step-counting d s z k) zs n (omega arith) (λ f. e (sym (counts-on d s z k n) ∙ f))
 
 pub given-length : (r : Receiver) (cs : List Call) → length (givenOf r cs) ≡ length (takenOf r cs)
 given-length r cs =
     let zs = mixedRow (conjugates (r .chain .profile)) (r .front .oscillator) (takenOf r cs) in
     ap length (given-is r cs) ∙ outputs-length (r .front .decimator) zs ∙ mixed-length (conjugates (r .chain .profile)) (r .front .oscillator) (takenOf r cs)
 
-pub given-paced : (d : ℕ) (r : Receiver) (cs : List Call) → Ready d (r .front .decimator) → Paced d (r .front .decimator .counter) (givenOf r cs)
+pub given-paced : (d : ℕ) (r : Receiver) (cs : List Call) → Counting d (r .front .decimator) → Paced d (r .front .decimator .counter) (givenOf r cs)
 given-paced d r cs k =
     let s = r .front .decimator in
     let zs = mixedRow (conjugates (r .chain .profile)) (r .front .oscillator) (takenOf r cs) in
@@ -238,20 +240,20 @@ given-paced d r cs k =
 one-value : (o q : Output) (v w : Complex32) → o ≡ Value v → q ≡ Value w → o ≡ q → v ≡ w
 one-value o q v w e f s = cc
 
-quiet-stays : (k : ℕ) (h g : Heard) (o q : Output) → o ≡ Nothing → q ≡ Nothing → Like k h g → Like k (hearing [] h o) (hearing [] g q)
-unfolding hearing
-quiet-stays k h g o q e f l = subst (λ (x : Output). Like k (hearing [] h x) (hearing [] g q)) (sym e) (subst (λ (y : Output). Like k h (hearing [] g y)) (sym f) l)
+quiet-stays : (k : ℕ) (h g : ResamplerState) (o q : Output) → o ≡ Nothing → q ≡ Nothing → Like k h g → Like k (resampleState [] h o) (resampleState [] g q)
+unfolding resampleState
+quiet-stays k h g o q e f l = subst (λ (x : Output). Like k (resampleState [] h x) (resampleState [] g q)) (sym e) (subst (λ (y : Output). Like k h (resampleState [] g y)) (sym f) l)
 
-nothing-made : (table : List Float) (h g : Heard) (o q : Output) → o ≡ Nothing → q ≡ Nothing → heard table h o ≡ heard table g q
-unfolding heard
-nothing-made table h g o q e f = ap (heard table h) e ∙ sym (ap (heard table g) f)
+nothing-made : (table : List Float) (h g : ResamplerState) (o q : Output) → o ≡ Nothing → q ≡ Nothing → resampleValues table h o ≡ resampleValues table g q
+unfolding resampleValues
+nothing-made table h g o q e f = ap (resampleValues table h) e ∙ sym (ap (resampleValues table g) f)
 
-arm-stays : (h : Heard) (o : Output) → hearing [] h o .resampler .arm ≡ h .resampler .arm
-unfolding hearing
+arm-stays : (h : ResamplerState) (o : Output) → resampleState [] h o .resampler .arm ≡ h .resampler .arm
+unfolding resampleState
 arm-stays h Nothing = refl
 arm-stays h (Value v) = unfold resampledOf in refl
 
-module _ (d since lead : ℕ) (D : 0 < d) (os ps : List Output) (P : Paced d since os) (Q : Paced d since ps) (h g : Heard)
+module _ (d since lead : ℕ) (D : 0 < d) (os ps : List Output) (P : Paced d since os) (Q : Paced d since ps) (h g : ResamplerState)
     (start : (k : ℕ) → k ≤ h .resampler .arm → k * d ≤ lead * d + since → Like k h g) where
   abbrev Same : ℕ → Type 0
   Same i = getD os i Nothing ≡ getD ps i Nothing
@@ -264,10 +266,10 @@ module _ (d since lead : ℕ) (D : 0 < d) (os ps : List Output) (P : Paced d sin
   loud-at : (n : ℕ) (v w : Complex32) → getD os n Nothing ≡ Value v → getD ps n Nothing ≡ Value w
       → ((k : ℕ) → k ≤ h .resampler .arm → k * d ≤ lead * d + since + n → ((i : ℕ) → i < n → n ≤ i + k * d → Same i) → Like k (ringAfter h os n) (ringAfter g ps n))
       → (k : ℕ) → k ≤ h .resampler .arm → k * d ≤ lead * d + since + suc n → ((i : ℕ) → i < suc n → suc n ≤ i + k * d → Same i)
-      → Like k (hearing [] (ringAfter h os n) (Value v)) (hearing [] (ringAfter g ps n) (Value w))
+      → Like k (resampleState [] (ringAfter h os n) (Value v)) (resampleState [] (ringAfter g ps n) (Value w))
   loud-at n v w e f before zero K m same = like-other [] 0 (ringAfter h os n) (ringAfter g ps n) (before 0 K (omega arith) (λ i a b. absurd (omega arith))) v w
   loud-at n v w e f before (suc k) K m same =
-      subst (λ (j : ℕ). Like j (hearing [] (ringAfter h os n) (Value v)) (hearing [] (ringAfter g ps n) (Value w))) (add-one k)
+      subst (λ (j : ℕ). Like j (resampleState [] (ringAfter h os n) (Value v)) (resampleState [] (ringAfter g ps n) (Value w))) (add-one k)
       (like-more [] k (ringAfter h os n) (ringAfter g ps n) (before k (omega arith) (omega arith) (λ i a b. same i (omega arith) (omega arith))) v w
       (let a = arm-after n in omega arith) (one-value (getD os n Nothing) (getD ps n Nothing) v w e f (same n (omega arith) (omega arith))))
 
@@ -286,8 +288,8 @@ module _ (d since lead : ℕ) (D : 0 < d) (os ps : List Output) (P : Paced d sin
     | inl e ↦
         let o = P .sounds n (omega arith) e in
         let q = Q .sounds n (omega arith) e in
-        subst (λ (x : Output). Like k (hearing [] (ringAfter h os n) x) (hearing [] (ringAfter g ps n) (getD ps n Nothing))) (sym (o .1))
-        (subst (λ (y : Output). Like k (hearing [] (ringAfter h os n) (Value (o .0))) (hearing [] (ringAfter g ps n) y)) (sym (q .1))
+        subst (λ (x : Output). Like k (resampleState [] (ringAfter h os n) x) (resampleState [] (ringAfter g ps n) (getD ps n Nothing))) (sym (o .1))
+        (subst (λ (y : Output). Like k (resampleState [] (ringAfter h os n) (Value (o .0))) (resampleState [] (ringAfter g ps n) y)) (sym (q .1))
         (loud-at n (o .0) (q .0) (o .1) (q .1) (like-at n (omega arith) (omega arith)) k K m same))
     | inr p ↦
         let none : (since + n + 1) % d ≡ 0 → ⊥ = λ e. absurd (omega arith) in
@@ -302,17 +304,17 @@ module _ (d since lead : ℕ) (D : 0 < d) (os ps : List Output) (P : Paced d sin
 
   -- so with c of them the values made are the same, by whatever table
   heard-at : (n : ℕ) → n < length os → n < length ps → 0 < h .resampler .arm → (h .resampler .arm - 1) * d ≤ lead * d + since + n → ((i : ℕ) → i ≤ n → n ≤ i + (h .resampler .arm - 1) * d → Same i)
-      → (table : List Float) → heard table (ringAfter h os n) (getD os n Nothing) ≡ heard table (ringAfter g ps n) (getD ps n Nothing)
+      → (table : List Float) → resampleValues table (ringAfter h os n) (getD os n Nothing) ≡ resampleValues table (ringAfter g ps n) (getD ps n Nothing)
   heard-at n a b C m same table = elim (eq-zero-or-pos ((since + n + 1) % d)) [
     | inl e ↦
         let o = P .sounds n a e in
         let q = Q .sounds n b e in
         let c = arm-after n in
-        ap (heard table (ringAfter h os n)) (o .1)
-        ∙ heard-same table (h .resampler .arm - 1) (ringAfter h os n) (ringAfter g ps n)
+        ap (resampleValues table (ringAfter h os n)) (o .1)
+        ∙ values-same table (h .resampler .arm - 1) (ringAfter h os n) (ringAfter g ps n)
         (like-at n (omega arith) (omega arith) (h .resampler .arm - 1) (omega arith) m (λ i l j. same i (omega arith) j)) (o .0) (q .0) (omega arith)
         (one-value (getD os n Nothing) (getD ps n Nothing) (o .0) (q .0) (o .1) (q .1) (same n (omega arith) (omega arith))) (omega arith)
-        ∙ sym (ap (heard table (ringAfter g ps n)) (q .1))
+        ∙ sym (ap (resampleValues table (ringAfter g ps n)) (q .1))
     | inr p ↦
         let none : (since + n + 1) % d ≡ 0 → ⊥ = λ e. absurd (omega arith) in
         nothing-made table (ringAfter h os n) (ringAfter g ps n) (getD os n Nothing) (getD ps n Nothing) (P .quiet n a none) (Q .quiet n b none)
@@ -343,7 +345,7 @@ module _ (r q : Receiver) (cs es : List Call) (n lead : ℕ) (l : n < length (ta
       let early = fits .early in
       let low = fits .ring .arm-low in
       made-at r cs n l
-      ∙ ap (λ (t : List Float). heard t (ringAfter (ringIn r) (givenOf r cs) n) (getD (givenOf r cs) n Nothing)) table
+      ∙ ap (λ (t : List Float). resampleValues t (ringAfter (ringIn r) (givenOf r cs) n) (getD (givenOf r cs) n Nothing)) table
       ∙ heard-at d since lead (fits .some) (givenOf r cs) (givenOf q es) (given-paced d r cs (record { by = refl; early = early }))
       (subst (λ (k : ℕ). Paced d k (givenOf q es)) (sym counter) (given-paced d q es (record { by = sym decimation; early = omega arith })))
       (ringIn r) (ringIn q) start n (omega arith) (omega arith) (omega arith) full same (getD (tablesOf q es) n [])

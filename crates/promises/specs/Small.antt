@@ -22,7 +22,7 @@ use Rattle.complex.specs.declared.Complex32.{Complex32}
 use Rattle.complex.specs.Complex.{zeroPair}
 use Rattle.oscillator.specs.declared.Oscillator.{Oscillator}
 use Rattle.oscillator.specs.Oscillator.{turnedOf, productOf}
-use Rattle.decimator.specs.Decimator.{quantiseOf, countsOf}
+use Rattle.decimator.specs.Decimator.{quantisedOf, countsOf}
 use Rattle.decimator.specs.Demand.{noCounts, ago}
 use Rattle.decimator.specs.Theorem.{Within}
 use Rattle.decimator.specs.Quantiser.{factor, middle, within, quantises-within, quantises-beyond}
@@ -96,13 +96,13 @@ module _ (x : Float) (F : T (finite x)) where
       (in-wider (mul binary64 k (fin true 1 (pos 29))) (mul binary64 k (fin false 1 (pos 29))) (fin true 1 (pos 44)) (fin false 1 (pos 44)) tt tt tt tt a)
 
 -- THE LAW
-pub quantise-small : (x : Float) → T (fits binary32 x) → Bounded 29 x → natAbs (quantiseOf x) ≤ 2 ^ 44
+pub quantise-small : (x : Float) → T (fits binary32 x) → Bounded 29 x → natAbs (quantisedOf x) ≤ 2 ^ 44
 quantise-small x F i = go (within x) refl
   where
     G : T (finite x)
     G = in-finite (fin true 1 (pos 29)) (fin false 1 (pos 29)) x tt tt i
 
-    go : (b : Bool) → within x ≡ b → natAbs (quantiseOf x) ≤ 2 ^ 44
+    go : (b : Bool) → within x ≡ b → natAbs (quantisedOf x) ≤ 2 ^ 44
     go true h = subst (λ (z : ℤ). natAbs z ≤ 2 ^ 44) (quantises-within x F h .is) (cast-small _ (steps-in x G (near x h)))
     go false h = subst (λ (z : ℤ). natAbs z ≤ 2 ^ 44) (quantises-beyond x F h) (cast-small _ (product-in x G i))
 
@@ -125,7 +125,7 @@ mixed-fits conjugated o (x ∷ xs) zero = (narrow-fits (productOf o x conjugated
 mixed-fits conjugated o (x ∷ xs) (suc i) = mixed-fits conjugated (turnedOf o) xs i
 
 none-counts : noCounts ≡ countsOf zeroPair
-unfolding quantiseOf wholeOf mul ofBits toSigned
+unfolding quantisedOf wholeOf mul ofBits toSigned
 none-counts = refl
 
 pub small-counts : (conjugated : Bool) (o : Oscillator) (xs : List Complex32) (n a : ℕ) → (a ≤ n → Small (getD (mixedRow conjugated o xs) (n - a) zeroPair)) → Within (ago (map countsOf (mixedRow conjugated o xs)) n a)

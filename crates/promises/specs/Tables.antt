@@ -16,7 +16,7 @@ use Rattle.numbers.specs.Root.{sqrtOf}
 use Rattle.complex.specs.declared.Complex32.{Complex32}
 use Rattle.resampler.specs.Dimensions.{sizedOf}
 use Rattle.resampler.specs.Design.{tableOf, writtenOf}
-use Rattle.resampler.specs.Ranges.{AdmittedRate}
+use Rattle.resampler.specs.Admitted.{AdmittedRate}
 use Rattle.signal.specs.Signal as signal
 use Rattle.signal.specs.Laws.{length-parts}
 use Rattle.admission.specs.declared.state.Receiver.{Receiver}

@@ -11,7 +11,7 @@ use lib.Ieee.{Float, nan, inf, fin, isNan}
 use borrow.Author.Tests.{ltb-false, eqb-true}
 use Rattle.laws.specs.Ring.{lt-or-ge}
 use Rattle.numbers.specs.Numbers.{isFinite}
-use Rattle.front.specs.Ready as fit
+use Rattle.front.specs.Admitted as fit
 use Rattle.labels.specs.Labels.{conjugates}
 use Rattle.chain.specs.declared.ChainPlace.{ChainPlace}
 use Rattle.front.specs.declared.FrontPlace.{FrontPlace}
@@ -71,7 +71,7 @@ run-asks r table xs ds rs k kr ki hr hi co pa =
     let h = f .symbols-in in
     record {
       start = refl;
-      ready = record { turns = a .turns; early = a .early; slow = a .slow; ring = a .ring };
+      ready = record { oscillator = record { renormalize-in = a .turns }; decimator = record { decimation-low = a .some; decimation-high = a .slow; counter-in = a .early }; resampler = a .ring };
       numbers = k .numbers;
       table-in = k .table-in;
       index-in = omega arith;
@@ -109,13 +109,13 @@ run-admitted conjugated r table xs ds rs w k g e =
     let t = k .total-in in
     let u = l .ranged .recovery in
     let v = l .ranged .decisions in
-    let y = g .next .ready in
+    let y = g .next .admitted in
     fits-to (r .total + countOf xs) (w .rung .place) (w .lent .state .place) (w .lent .state .parents) (record {
       total-in = k .total-in;
       index-in = omega arith;
       locked-in = v .locked;
       symbols-in = omega arith;
-      front-fits = record { some = omega arith; slow = y .slow; early = y .early; turns = y .turns; ring = y .ring };
+      front-fits = record { some = y .decimator .decimation-low; slow = y .decimator .decimation-high; early = y .decimator .counter-in; turns = y .oscillator .renormalize-in; ring = y .resampler };
       chain-fits = record {
         head = u .keeper .head;
         fill = u .keeper .fill;

@@ -16,7 +16,7 @@ use Rattle.signal.specs.Signal.{Read, viewOf, readOf}
 use Rattle.resampler.specs.declared.dimensions.Dimensions.{Dimensions}
 use Rattle.resampler.specs.Dimensions.{sizedOf}
 use Rattle.resampler.specs.Design.{writtenOf}
-use Rattle.resampler.specs.Ranges.{AdmittedRate, lowestRate, highestRate}
+use Rattle.resampler.specs.Admitted.{AdmittedRate, lowestRate, highestRate}
 use Rattle.front.specs.declared.FrontPlace.{FrontPlace}
 use Rattle.admission.specs.declared.refusal.Verdict.the-variants.{Accepted, Rate, Offset, Table, State}
 use Rattle.admission.specs.declared.state.Receiver.{Receiver}

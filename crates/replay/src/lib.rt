@@ -20,6 +20,11 @@ pub fn mixed(h: u64, x: u64) -> u64 {
     e ^ (e >> 14)
 }
 
+// The digest with three answers more.
+pub fn mixed_three(h: u64, first: u64, second: u64, third: u64) -> u64 {
+    mixed(mixed(mixed(h, first), second), third)
+}
+
 pub fn mixed_float(h: u64, x: f64) -> u64 {
     mixed(h, pattern(x))
 }

@@ -13,6 +13,7 @@ use decimator::Sums;
 use replay::any;
 use replay::mixed;
 use replay::mixed_float32;
+use replay::mixed_three;
 use replay::print_line;
 use replay::word;
 
@@ -27,6 +28,7 @@ fn sums(head: &[u8], at: usize) -> Sums
     }
 }
 
+// The same as delays.
 fn delays(head: &[u8], at: usize) -> Delays
     requires { ⌜ at + 24 ≤ length (now head) ⌝ }
 {
@@ -59,26 +61,22 @@ fn decoded(head: &[u8]) -> Decimator
     }
 }
 
-fn mixed_sums(h: u64, s: Sums) -> u64 {
-    mixed(mixed(mixed(h, s.first), s.second), s.third)
-}
-
-fn mixed_delays(h: u64, y: Delays) -> u64 {
-    mixed(mixed(mixed(h, y.first), y.second), y.third)
-}
-
-fn mixed_state(h: u64, d: Decimator) -> u64 {
+// The digest with a decimator more: its counter, its integrators and its combs.
+fn mixed_decimator(h: u64, d: Decimator) -> u64 {
     let integrators = d.integrators;
     let combs = d.combs;
-    let h1 = mixed(h, d.counter as u64);
     let a = integrators.real;
     let b = integrators.imaginary;
-    let h2 = mixed_sums(mixed_sums(h1, a), b);
     let p = combs.real;
     let q = combs.imaginary;
-    mixed_delays(mixed_delays(h2, p), q)
+    let counted = mixed(h, d.counter as u64);
+    let real = mixed_three(counted, a.first, a.second, a.third);
+    let sums = mixed_three(real, b.first, b.second, b.third);
+    let delays = mixed_three(sums, p.first, p.second, p.third);
+    mixed_three(delays, q.first, q.second, q.third)
 }
 
+// The digest with an output more.
 fn mixed_output(h: u64, o: Output) -> u64 {
     match o {
         Output::Nothing => mixed(h, 0),
@@ -86,6 +84,7 @@ fn mixed_output(h: u64, o: Output) -> u64 {
     }
 }
 
+// A sample made of a word: any f32 in either part.
 fn sample(a: u64) -> Complex32 {
     Complex32 {
         real: any(a),
@@ -110,7 +109,7 @@ fn digest(d0: Decimator, count: u64) -> u64
         d = next;
         left -= 1;
     }
-    mixed_state(h, d)
+    mixed_decimator(h, d)
 }
 
 // Whether a run was read, and answered.

@@ -10,7 +10,7 @@ use lib.Ieee.{Float, nan, isNan}
 use lib.ListN.{length, getD, set}
 use lib.Seq.{getD-set-same, getD-set-other}
 use Rattle.laws.specs.Places.{le-or}
-use Rattle.front.specs.Ready.{Numbers}
+use Rattle.front.specs.Admitted.{Numbers}
 
 -- so are the first n
 pub record Sound (n : ℕ) (l : List Float) : Type 0 where

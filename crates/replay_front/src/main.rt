@@ -2,16 +2,15 @@
 // line for each: the digest of its values and of the state after them, in the order of the list that
 // the oracle prints.
 ghost use mathlib.Core.Path.{_≡_};
-ghost use mathlib.Core.Bool.{true, not};
+ghost use mathlib.Core.Bool.{not};
 ghost use Prim.Native.Nat.{_+_, _-_, _^_, _<_, _≤_};
 ghost use lib.Dec.{T};
 ghost use lib.Ieee.{isNan};
 ghost use lib.ListN.{length};
-ghost use Rattle.front.specs.Ready.{Ready, Numbers};
+ghost use Rattle.front.specs.Admitted.{Admitted, Numbers};
 use decimator::Decimator;
-use decimator::Delays;
-use decimator::Sums;
 use front::FrontPlace;
+use front::ROW;
 use numbers::bits::float;
 use numbers::compare::is_nan32;
 use oscillator::Oscillator;
@@ -19,10 +18,13 @@ use replay::mixed;
 use replay::mixed_float;
 use replay::mixed_float32;
 use replay::mixed_plane;
+use replay::mixed_three;
 use replay::next;
 use replay::print_line;
 use replay::sample_part;
 use replay::word;
+use resampler::design::TABLE;
+use resampler::pass::PLACES;
 use resampler::pass::Resampler;
 
 // Samples in a block.
@@ -83,7 +85,8 @@ fn fill(seed: u64, kind: u64, samples: &mut [f32; 1024]) -> u64
     s
 }
 
-fn mixed_row(h: u64, real: &[f32; 256], imaginary: &[f32; 256], made: usize) -> u64
+// The digest with the first `made` values of a row more.
+fn mixed_row(h: u64, real: &[f32; ROW], imaginary: &[f32; ROW], made: usize) -> u64
     requires { ⌜ made ≤ 256 ⌝ }
 {
     let mut d = h;
@@ -101,18 +104,18 @@ fn block(
     conjugated: bool,
     samples: &[f32],
     skipped: usize,
-    table: &[f32; 18432],
-    ring_real: &mut [f32; 592],
-    ring_imaginary: &mut [f32; 592],
+    table: &[f32; TABLE],
+    ring_real: &mut [f32; PLACES],
+    ring_imaginary: &mut [f32; PLACES],
 ) -> Told
-    requires { ⌜ Ready (t .place) ⌝ }
+    requires { ⌜ Admitted (t .place) ⌝ }
     requires { ⌜ Numbers (now samples) ⌝ }
     requires { ⌜ length (now samples) ≡ 1024 ⌝ }
     requires { ⌜ t .place .resampler .index + 512 ≤ 2 ^ 52 ⌝ }
-    ensures { λ r. ⌜ Ready (r .place) ⌝ }
+    ensures { λ r. ⌜ Admitted (r .place) ⌝ }
 {
-    let mut row_real: [f32; 256] = [0.0; 256];
-    let mut row_imaginary: [f32; 256] = [0.0; 256];
+    let mut row_real: [f32; ROW] = [0.0; ROW];
+    let mut row_imaginary: [f32; ROW] = [0.0; ROW];
     let mut place = t.place;
     let mut h = t.digest;
     let mut from = skipped;
@@ -135,14 +138,6 @@ fn block(
     Told { place, digest: h }
 }
 
-fn mixed_sums(h: u64, s: Sums) -> u64 {
-    mixed(mixed(mixed(h, s.first), s.second), s.third)
-}
-
-fn mixed_delays(h: u64, y: Delays) -> u64 {
-    mixed(mixed(mixed(h, y.first), y.second), y.third)
-}
-
 fn mixed_oscillator(h: u64, o: Oscillator) -> u64 {
     let at = mixed_float(mixed_float(h, o.real), o.imaginary);
     let step = mixed_float(mixed_float(at, o.step_real), o.step_imaginary);
@@ -156,8 +151,11 @@ fn mixed_decimator(h: u64, d: Decimator) -> u64 {
     let b = integrators.imaginary;
     let p = combs.real;
     let q = combs.imaginary;
-    let sums = mixed_sums(mixed_sums(mixed(h, d.counter as u64), a), b);
-    mixed_delays(mixed_delays(sums, p), q)
+    let counted = mixed(h, d.counter as u64);
+    let real = mixed_three(counted, a.first, a.second, a.third);
+    let sums = mixed_three(real, b.first, b.second, b.third);
+    let delays = mixed_three(sums, p.first, p.second, p.third);
+    mixed_three(delays, q.first, q.second, q.third)
 }
 
 fn mixed_resampler(h: u64, r: Resampler) -> u64 {
@@ -171,7 +169,7 @@ fn mixed_place(h: u64, p: FrontPlace) -> u64 {
     mixed_resampler(mixed_decimator(mixed_oscillator(h, o), d), r)
 }
 
-fn mixed_ring(h: u64, real: &[f32; 592], imaginary: &[f32; 592]) -> u64 {
+fn mixed_ring(h: u64, real: &[f32; PLACES], imaginary: &[f32; PLACES]) -> u64 {
     mixed_plane(mixed_plane(h, real), imaginary)
 }
 
@@ -179,11 +177,11 @@ fn mixed_ring(h: u64, real: &[f32; 592], imaginary: &[f32; 592]) -> u64 {
 fn run(
     q: Request,
     place: FrontPlace,
-    table: &[f32; 18432],
-    ring_real: &mut [f32; 592],
-    ring_imaginary: &mut [f32; 592],
+    table: &[f32; TABLE],
+    ring_real: &mut [f32; PLACES],
+    ring_imaginary: &mut [f32; PLACES],
 ) -> u64
-    requires { ⌜ Ready place ⌝ }
+    requires { ⌜ Admitted place ⌝ }
 {
     let mut samples: [f32; 1024] = [0.0; 1024];
     let mut t = Told { place, digest: 0 };
@@ -224,33 +222,16 @@ fn started(q: Request, s: resampler::dimensions::Dimensions) -> FrontPlace {
     }
 }
 
-// Whether samples may go in.
-fn is_ready(p: FrontPlace) -> bool
-    ensures { λ r. ⌜ (r ≡ true → Ready p) ⌝ }
-{
-    let o = p.oscillator;
-    let d = p.decimator;
-    let r = p.resampler;
-    if o.renormalize < 4096 {
-        if d.counter < d.decimation {
-            if d.decimation <= 78 {
-                return resampler::pass::is_admitted(r);
-            }
-        }
-    }
-    false
-}
-
-// Runs are answered where their rate is admitted, as all of the list are.
+// Runs are answered where their rate and their front are admitted, as all of the list are.
 fn answer(q: Request) {
     if q.rate >= 9600.0 && q.rate <= 20000000.0 {
         let s = resampler::dimensions::sized(q.rate);
-        let mut table: [f32; 18432] = [0.0; 18432];
+        let mut table: [f32; TABLE] = [0.0; TABLE];
         resampler::design::write_table(s.arm, s.rate, &mut table);
-        let mut ring_real: [f32; 592] = [0.0; 592];
-        let mut ring_imaginary: [f32; 592] = [0.0; 592];
+        let mut ring_real: [f32; PLACES] = [0.0; PLACES];
+        let mut ring_imaginary: [f32; PLACES] = [0.0; PLACES];
         let place = started(q, s);
-        if is_ready(place) {
+        if front::is_admitted(place) {
             let h = run(q, place, &table, &mut ring_real, &mut ring_imaginary);
             print_line(mixed_ring(h, &ring_real, &ring_imaginary), 16);
         }

@@ -3,7 +3,7 @@
 // made from its seed.
 ghost use Prim.Native.Nat.{_^_, _<_, _≤_};
 ghost use lib.ListN.{length};
-ghost use Rattle.resampler.specs.Ready.{Ready};
+ghost use Rattle.resampler.specs.Admitted.{Admitted};
 ghost use Rattle.replay_resampler.specs.Held.{Held};
 use complex::Complex32;
 use decimator::Decimator;
@@ -17,7 +17,9 @@ use replay::next;
 use replay::print_line;
 use replay::sample_part;
 use replay::word;
+use resampler::design::TABLE;
 use resampler::dimensions::Dimensions;
+use resampler::pass::PLACES;
 use resampler::pass::Passed;
 use resampler::pass::Resampler;
 
@@ -78,7 +80,7 @@ fn filling(handed: u64, place: usize, slope: f32, offset: f32) -> f32
 }
 
 // The ring that stands there: zeros, or numbers that tell the places apart.
-fn fill(handed: u64, reals: &mut [f32; 592], imaginaries: &mut [f32; 592]) {
+fn fill(handed: u64, reals: &mut [f32; PLACES], imaginaries: &mut [f32; PLACES]) {
     let mut i = 0;
     while i < 592 {
         reals[i] = filling(handed, i, 1.0, 100.5);
@@ -91,11 +93,11 @@ fn fill(handed: u64, reals: &mut [f32; 592], imaginaries: &mut [f32; 592]) {
 fn taken(
     o: Output,
     r: Resampler,
-    table: &[f32; 18432],
-    reals: &mut [f32; 592],
-    imaginaries: &mut [f32; 592],
+    table: &[f32; TABLE],
+    reals: &mut [f32; PLACES],
+    imaginaries: &mut [f32; PLACES],
 ) -> Passed
-    requires { ⌜ Ready r ⌝ }
+    requires { ⌜ Admitted r ⌝ }
     requires { ⌜ r .index < 2 ^ 52 ⌝ }
     ensures { λ p. ⌜ Held r p ⌝ }
 {
@@ -139,11 +141,11 @@ fn run(
     q: Request,
     r0: Resampler,
     d0: Decimator,
-    table: &[f32; 18432],
-    reals: &mut [f32; 592],
-    imaginaries: &mut [f32; 592],
+    table: &[f32; TABLE],
+    reals: &mut [f32; PLACES],
+    imaginaries: &mut [f32; PLACES],
 ) -> u64
-    requires { ⌜ Ready r0 ⌝ }
+    requires { ⌜ Admitted r0 ⌝ }
     requires { ⌜ d0 .counter < d0 .decimation ⌝ }
 {
     let mut d = d0;
@@ -178,14 +180,14 @@ fn print_float(x: f64) {
     print_line(numbers::bits::pattern(x), 16);
 }
 
-fn print_tap(table: &[f32; 18432], place: usize)
+fn print_tap(table: &[f32; TABLE], place: usize)
     requires { ⌜ place < 18432 ⌝ }
 {
     let tap = table[place];
     print_line(numbers::bits::pattern32(tap) as u64, 16);
 }
 
-fn print_design(s: Dimensions, step: f64, digest: u64, table: &[f32; 18432])
+fn print_design(s: Dimensions, step: f64, digest: u64, table: &[f32; TABLE])
     requires { ⌜ 14 ≤ s .arm ⌝ }
     requires { ⌜ s .arm ≤ 576 ⌝ }
 {
@@ -205,7 +207,7 @@ fn print_design(s: Dimensions, step: f64, digest: u64, table: &[f32; 18432])
 fn answer(q: Request) {
     if q.rate >= 9600.0 && q.rate <= 20000000.0 {
         let s = resampler::dimensions::sized(q.rate);
-        let mut table: [f32; 18432] = [0.0; 18432];
+        let mut table: [f32; TABLE] = [0.0; TABLE];
         resampler::design::write_table(s.arm, s.rate, &mut table);
         let r = started(q, s);
         if q.asked == 0 {
@@ -213,8 +215,8 @@ fn answer(q: Request) {
             print_design(s, r.step, digest, &table);
             return;
         }
-        let mut reals: [f32; 592] = [0.0; 592];
-        let mut imaginaries: [f32; 592] = [0.0; 592];
+        let mut reals: [f32; PLACES] = [0.0; PLACES];
+        let mut imaginaries: [f32; PLACES] = [0.0; PLACES];
         fill(q.handed, &mut reals, &mut imaginaries);
         if resampler::pass::is_admitted(r) {
             let d = decimator::fresh(s.decimation);

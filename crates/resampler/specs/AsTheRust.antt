@@ -24,17 +24,17 @@ use Rattle.laws.specs.FloatSums.{In, in-finite}
 use Rattle.numbers.specs.Numbers.{wholeOf, away, downward}
 use Rattle.complex.specs.Complex.{zeroPair}
 use Rattle.complex.specs.declared.Complex32.{Complex32}
-use Rattle.decimator.specs.Decimator.{modulo}
 use Rattle.resampler.specs.declared.pass.Resampler.{Resampler}
 use Rattle.resampler.specs.declared.pass.Place.{Place}
 use Rattle.resampler.specs.declared.pass.Delivery.{Delivery}
-use Rattle.resampler.specs.Pass.{placeOf, waits, windowOf, armOf, sumTurn, sumOf, filteredOf, startOf, emittedOf, isDone, passTurn, deliveredOf, pushedOf, Sampled, resampledOf, valuesOf}
-use Rattle.resampler.specs.Outputs.{tick, position, phase, f0, far, no-minus}
+use Rattle.resampler.specs.Pass.{placedOf, waitingOf, windowOf, armAt, sumTurn, sumOf, filteredOf, startOf, emittedOf, isDone, passTurn, deliveredOf, pushedOf, Sampled, resampledOf, valuesOf}
+use Rattle.resampler.specs.Outputs.{tick, position, phase, no-minus}
 use Rattle.resampler.specs.Ticks.{minus-zero, placed-is, whole-cut, whole-most}
 use Rattle.resampler.specs.Window.{window-at}
 use Rattle.resampler.specs.Latest.{due-now, window-start}
-use Rattle.resampler.specs.Ready.{back, Ready, Dimensioned, Passing, Going, going-start, going-turned, outcome, no-third, due-few, ready-passing, pushed-dimensioned}
-use Rattle.resampler.specs.RustPass.{Spot, spotFrom, spotOf, offsetOf, Summing, tapped, summedOf, Loop, isBeyond, returns, loopTurn, loopOf, Processed, processedOf}
+use Rattle.resampler.specs.Admitted.{f0, far, back, Admitted, Dimensioned}
+use Rattle.resampler.specs.AdmittedLaws.{Passing, Going, going-start, going-turned, outcome, no-third, due-few, admitted-passing, pushed-dimensioned}
+use Rattle.resampler.specs.RustPass.{remEuclid, Spot, spotFrom, spotOf, offsetOf, Summing, tapped, summedOf, Loop, isBeyond, returns, loopTurn, loopOf, Processed, processedOf}
 
 -- ---- signed positions: nothing that the Rust casts to i64 is negative
 abbrev floored : Float → Float
@@ -59,8 +59,8 @@ floor-signed (fin true m e) i F =
 abbrev spotted : Place → Spot
 spotted p = record { position = pos (p .position); phase = p .phase }
 
-spot-is : (x : Float) → In f0 far x → T (fits binary64 x) → spotOf x ≡ spotted (placeOf x)
-unfolding spotOf placeOf
+spot-is : (x : Float) → In f0 far x → T (fits binary64 x) → spotOf x ≡ spotted (placedOf x)
+unfolding spotOf placedOf
 spot-is x i F =
     let n = toUnsigned 64 (floored x) in
     let k = toUnsigned 64 (wholeOf away binary64 (mul binary64 (sub binary64 x (ofInt binary64 (pos n))) (ofBits binary64 0x4040_0000_0000_0000))) in
@@ -70,7 +70,7 @@ spot-is x i F =
     carried n k true = refl
     carried n k false = refl
 
-phase-in : (x : Float) → In f0 far x → T (fits binary64 x) → placeOf x .phase < 32
+phase-in : (x : Float) → In f0 far x → T (fits binary64 x) → placedOf x .phase < 32
 unfolding phase
 phase-in x i F = subst (λ (p : Place). p .phase < 32) (sym (placed-is x i F)) (mod-lt (tick x) (lit< tt))
 
@@ -84,15 +84,15 @@ minus-larger a zero h = absurd (omega arith)
 minus-larger a (suc b) h = rw (lt-ltb a (suc b) h)
 
 -- a remainder of a difference of up to one round
-round-back : (size a b : ℕ) → 0 < size → b ≤ a + size → modulo size (pos a -ℤ pos b) ≡ (a + size - b) % size
-unfolding modulo
+round-back : (size a b : ℕ) → 0 < size → b ≤ a + size → remEuclid size (pos a -ℤ pos b) ≡ (a + size - b) % size
+unfolding remEuclid
 round-back size a b z h =
     ⊎-elim
     (λ l.
     let s : b - suc a < size = omega arith in
-    ap (modulo size) (minus-larger a b l) ∙ ap (λ (k : ℕ). size - suc k) (mod-eq-of-lt s) ∙ (let e : size - suc (b - suc a) ≡ a + size - b = omega arith in e) ∙ sym (mod-eq-of-lt (let g : a + size - b < size = omega arith in g)))
+    ap (remEuclid size) (minus-larger a b l) ∙ ap (λ (k : ℕ). size - suc k) (mod-eq-of-lt s) ∙ (let e : size - suc (b - suc a) ≡ a + size - b = omega arith in e) ∙ sym (mod-eq-of-lt (let g : a + size - b < size = omega arith in g)))
     (λ l.
-    ap (modulo size) (minus-smaller a b l) ∙ sym (add-mod-left size (a - b)) ∙ ap (λ (k : ℕ). k % size) (let e : size + (a - b) ≡ a + size - b = omega arith in e))
+    ap (remEuclid size) (minus-smaller a b l) ∙ sym (add-mod-left size (a - b)) ∙ ap (λ (k : ℕ). k % size) (let e : size + (a - b) ≡ a + size - b = omega arith in e))
     (lt-or-ge a b)
 
 -- first + c, with c at least half
@@ -108,14 +108,14 @@ offset-sum w n h i =
 
 -- ---- one output
 module _ (q : Resampler) (d : Dimensioned q) (table real imaginary : List Float) (room : 32 * q .arm ≤ length table) where
-  taps-length : (k : ℕ) → k < 32 → length (armOf (q .arm) table k) ≡ q .arm
+  taps-length : (k : ℕ) → k < 32 → length (armAt (q .arm) table k) ≡ q .arm
   taps-length k l =
       let e = row-ends k 32 (q .arm) (length table) l room in
       let f = length-drop (k * q .arm) table in
       length-take-le (q .arm) (drop (k * q .arm) table) (omega arith)
 
   -- the Rust's test is ours
-  beyond-is : (p : Place) → p .phase < 32 → isBeyond q table (spotted p) ≡ waits q p
+  beyond-is : (p : Place) → p .phase < 32 → isBeyond q table (spotted p) ≡ waitingOf q p
   beyond-is p l =
       ap (λ (n : ℕ). ltZ (pos (q .index)) (pos (p .position) -ℤ pos (q .half) +ℤ pos n)) (taps-length (p .phase) l)
       ∙ ap (ltZ (pos (q .index))) (first-end (p .position) (q .half) (q .arm) (d .half-in))
@@ -125,7 +125,7 @@ module _ (q : Resampler) (d : Dimensioned q) (table real imaginary : List Float)
   offset-is p e =
       let size = q .arm + 16 in
       let h = d .half-in in
-      ap (modulo size) (offset-sum (q .write) (p .position) (q .half) (q .index))
+      ap (remEuclid size) (offset-sum (q .write) (p .position) (q .half) (q .index))
       ∙ round-back size (q .write + p .position) (q .half + q .index) (omega arith) (omega arith)
       ∙ ap (λ (k : ℕ). k % size) (let g : q .write + p .position + size - (q .half + q .index) ≡ q .write + size - (q .index + q .half - p .position) = omega arith in g)
       ∙ window-start q (p .position) h e
@@ -156,7 +156,7 @@ module _ (q : Resampler) (d : Dimensioned q) (table real imaginary : List Float)
   summed-is : (p : Place) → p .phase < 32 → p .position + back q ≡ q .index → summedOf q table real imaginary (spotted p) ≡ filteredOf q table real imaginary (p .phase)
   unfolding summedOf sumOf
   summed-is p l e =
-      let taps = armOf (q .arm) table (p .phase) in
+      let taps = armAt (q .arm) table (p .phase) in
       let f = tapped (q .arm + 16) real imaginary in
       ap (λ (t : Summing). t .sum)
       (sym (turns-foldl f nan taps (record { offset = offsetOf q (spotted p); sum = zeroPair }))
@@ -175,18 +175,18 @@ told-more (suc zero) a b v x s l = refl
 told-more (suc (suc c)) a b v x s l = absurd (omega arith)
 
 module _ (q : Resampler) (d : Dimensioned q) (p : Passing q) (table real imaginary : List Float) (room : 32 * q .arm ≤ length table) where
-  spot-going : (n : ℕ) (y : Float) → Going q n y → spotOf y ≡ spotted (placeOf y)
+  spot-going : (n : ℕ) (y : Float) → Going q n y → spotOf y ≡ spotted (placedOf y)
   spot-going n y g = spot-is y (g .sound .range) (g .sound .stored)
 
   returns-is : (e : Delivery) → Going q (e .count) (e .next) → returns q table (told e) ≡ isDone q e
   returns-is e g =
       ap (isBeyond q table) (spot-going (e .count) (e .next) g)
-      ∙ beyond-is q d table real imaginary room (placeOf (e .next)) (phase-in (e .next) (g .sound .range) (g .sound .stored))
+      ∙ beyond-is q d table real imaginary room (placedOf (e .next)) (phase-in (e .next) (g .sound .range) (g .sound .stored))
 
   -- one turn of each
-  turn-is : (e : Delivery) → Going q (e .count) (e .next) → placeOf (e .next) .position + back q ≤ q .index → loopTurn q table real imaginary (told e) ≡ told (passTurn q table real imaginary e)
+  turn-is : (e : Delivery) → Going q (e .count) (e .next) → placedOf (e .next) .position + back q ≤ q .index → loopTurn q table real imaginary (told e) ≡ told (passTurn q table real imaginary e)
   turn-is e g due =
-      let l = placeOf (e .next) in
+      let l = placedOf (e .next) in
       let at : l .position ≡ position (e .next) = ap (λ (z : Place). z .position) (placed-is (e .next) (g .sound .range) (g .sound .stored)) in
       let due' : position (e .next) + back q ≤ q .index = subst (λ (n : ℕ). n + back q ≤ q .index) at due in
       let now : l .position + back q ≡ q .index = ap (λ (n : ℕ). n + back q) at ∙ due-now q p (e .count) (e .next) g due' in
@@ -205,16 +205,16 @@ module _ (q : Resampler) (d : Dimensioned q) (p : Passing q) (table real imagina
       let ours = passTurn q table real imaginary in
       ⊎-elim
       (λ l.
-      let u = lt-ltb (q .index) (placeOf (e .next) .position + back q) l in
+      let u = lt-ltb (q .index) (placedOf (e .next) .position + back q) l in
       ap (λ (b : Bool). cond b (told e) (until (returns q table) more n (more (told e)))) (returns-is e g ∙ u)
       ∙ ap (λ (b : Bool). told (cond b e (until (isDone q) ours n (ours e)))) (sym u))
       (λ l.
-      let u = le-ltb (q .index) (placeOf (e .next) .position + back q) l in
+      let u = le-ltb (q .index) (placedOf (e .next) .position + back q) l in
       ap (λ (b : Bool). cond b (told e) (until (returns q table) more n (more (told e)))) (returns-is e g ∙ u)
       ∙ ap (until (returns q table) more n) (turn-is e g l)
       ∙ loop-is n (ours e) (going-turned q p table real imaginary e g l)
       ∙ ap (λ (b : Bool). told (cond b e (until (isDone q) ours n (ours e)))) (sym u))
-      (lt-or-ge (q .index) (placeOf (e .next) .position + back q))
+      (lt-or-ge (q .index) (placedOf (e .next) .position + back q))
 
   loop-ends : (n : ℕ) → 3 ≤ n → loopOf n q table real imaginary ≡ told (deliveredOf q table real imaginary)
   unfolding loopOf
@@ -227,7 +227,7 @@ module _ (q : Resampler) (d : Dimensioned q) (p : Passing q) (table real imagina
   loop-returns n h =
       let o = outcome q p table real imaginary in
       let e = deliveredOf q table real imaginary in
-      ap (returns q table) (loop-ends n h) ∙ returns-is e (o .going) ∙ lt-ltb (q .index) (placeOf (e .next) .position + back q) (o .idle)
+      ap (returns q table) (loop-ends n h) ∙ returns-is e (o .going) ∙ lt-ltb (q .index) (placedOf (e .next) .position + back q) (o .idle)
 
 -- ---- THE LAW
 
@@ -236,7 +236,7 @@ abbrev pub toldOf : Sampled → Processed
 toldOf s = record { resampler = s .passed .resampler; real = s .real; imaginary = s .imaginary; sink = valuesOf (s .passed) }
 
 -- a value into a state that is ready, whose next output is a value of an f64 and into which fewer than 2 ^ 52 values came, with a table of 32 arms: the Rust's loop, let run for any n turns from 3 up
-module _ (r : Resampler) (k : Ready r) (F : T (fits binary64 (r .next))) (below : r .index < 2 ^ 52) (v : Complex32) (table real imaginary : List Float)
+module _ (r : Resampler) (k : Admitted r) (F : T (fits binary64 (r .next))) (below : r .index < 2 ^ 52) (v : Complex32) (table real imaginary : List Float)
     (room : 32 * r .arm ≤ length table) (n : ℕ) (enough : 3 ≤ n) where
   pub as-the-rust : processedOf n r v table real imaginary ≡ toldOf (resampledOf r v table real imaginary)
   unfolding processedOf resampledOf
@@ -244,9 +244,9 @@ module _ (r : Resampler) (k : Ready r) (F : T (fits binary64 (r .next))) (below 
       let q = pushedOf r in
       let xs = set real (r .write) (v .real) in
       let ys = set imaginary (r .write) (v .imaginary) in
-      let e = loop-ends q (pushed-dimensioned r k) (ready-passing r k F below) table xs ys room n enough in
+      let e = loop-ends q (pushed-dimensioned r k) (admitted-passing r k F below) table xs ys room n enough in
       λ i. record { resampler = record { arm = q .arm; half = q .half; step = q .step; index = q .index; next = e i .next; write = q .write }; real = xs; imaginary = ys; sink = e i .sink }
 
   -- and the Rust's loop has returned by its test, however long it is let run
   pub returns-by-its-test : returns (pushedOf r) table (loopOf n (pushedOf r) table (set real (r .write) (v .real)) (set imaginary (r .write) (v .imaginary))) ≡ true
-  returns-by-its-test = loop-returns (pushedOf r) (pushed-dimensioned r k) (ready-passing r k F below) table (set real (r .write) (v .real)) (set imaginary (r .write) (v .imaginary)) room n enough
+  returns-by-its-test = loop-returns (pushedOf r) (pushed-dimensioned r k) (admitted-passing r k F below) table (set real (r .write) (v .real)) (set imaginary (r .write) (v .imaginary)) room n enough

@@ -10,41 +10,64 @@ use Rattle.laws.specs.Places.{upto}
 use Rattle.numbers.specs.Numbers.{convert}
 use Rattle.routines.specs.Circle.{sineOf, cosineOf}
 
--- 2 pi
+abbrev pub zero64 : Float
+zero64 = ofBits binary64 0x0000_0000_0000_0000  -- 0
+
+abbrev pub two64 : Float
+two64 = ofBits binary64 0x4000_0000_0000_0000  -- 2
+
 abbrev pub twoPi : Float
-twoPi = ofBits binary64 0x4019_21fb_5444_2d18
+twoPi = ofBits binary64 0x4019_21fb_5444_2d18  -- 6.283185307179586
+
+-- the filter's cutoff in hertz
+abbrev pub cutoff : Float
+cutoff = ofBits binary64 0x40b0_6800_0000_0000  -- 4200
+
+-- the arms of the table, as an f64 and as an f32
+abbrev pub arms64 : Float
+arms64 = ofBits binary64 0x4040_0000_0000_0000  -- 32
+
+abbrev pub arms32 : Float
+arms32 = ofBits binary32 0x4200_0000  -- 32
+
+-- the Hamming window: its middle, and how far the cosine takes it from there
+abbrev pub windowMiddle : Float
+windowMiddle = ofBits binary64 0x3fe1_47ae_147a_e148  -- 0.54
+
+abbrev pub windowSwing : Float
+windowSwing = ofBits binary64 0x3fdd_70a3_d70a_3d71  -- 0.46
 
 -- 2 pi 4200 / (32 rate): the cutoff in radians a tap, for values that come at the rate
 unfoldable pub omegaOf : Float → Float
-omegaOf rate = div binary64 (mul binary64 twoPi (ofBits binary64 0x40b0_6800_0000_0000)) (mul binary64 (ofBits binary64 0x4040_0000_0000_0000) rate)
+omegaOf rate = div binary64 (mul binary64 twoPi cutoff) (mul binary64 arms64 rate)
 
 -- the sine over its distance x from the middle; the limit in the middle itself
 unfoldable pub waveOf : Float → Float → Float
-waveOf omega x = cond (eq x (ofBits binary64 0)) omega (div binary64 (sineOf (mul binary64 omega x)) x)
+waveOf omega x = cond (eq x zero64) omega (div binary64 (sineOf (mul binary64 omega x)) x)
 
 -- tap i of those from 0 to last: the wave under the window 0.54 - 0.46 cos
-unfoldable pub rawTap : Float → ℕ → ℕ → Float
-rawTap omega last i =
+unfoldable pub rawTapOf : Float → ℕ → ℕ → Float
+rawTapOf omega last i =
     let place = ofInt binary64 (pos i) in
     let end = ofInt binary64 (pos last) in
-    let wave = waveOf omega (sub binary64 place (div binary64 end (ofBits binary64 0x4000_0000_0000_0000))) in
-    let window = sub binary64 (ofBits binary64 0x3fe1_47ae_147a_e148) (mul binary64 (ofBits binary64 0x3fdd_70a3_d70a_3d71) (cosineOf (div binary64 (mul binary64 twoPi place) end))) in
+    let wave = waveOf omega (sub binary64 place (div binary64 end two64)) in
+    let window = sub binary64 windowMiddle (mul binary64 windowSwing (cosineOf (div binary64 (mul binary64 twoPi place) end))) in
     convert binary32 (mul binary64 wave window)
 
 -- the sum of the taps 0 to n - 1, in that order
-abbrev pub sumTurn : Float → ℕ → ℕ → Float → Float
-sumTurn omega last i s = add binary64 s (rawTap omega last i)
+abbrev pub tapSumTurn : Float → ℕ → ℕ → Float → Float
+tapSumTurn omega last i s = add binary64 s (rawTapOf omega last i)
 
 unfoldable pub tapSum : Float → ℕ → ℕ → Float
-tapSum omega last n = turns (sumTurn omega last) n (ofBits binary64 0)
+tapSum omega last n = turns (tapSumTurn omega last) n zero64
 
 -- a tap over a sum, times 32
 abbrev pub overSum : Float → Float → Float
-overSum sum tap = mul binary32 (div binary32 tap sum) (ofBits binary32 0x4200_0000)
+overSum sum tap = mul binary32 (div binary32 tap sum) arms32
 
 -- the taps of an arm length c and a rate: the sum runs over all 32 c + 1 of them
 unfoldable pub tapOf : ℕ → Float → ℕ → Float
-tapOf c rate i = overSum (convert binary32 (tapSum (omegaOf rate) (32 * c) (32 * c + 1))) (rawTap (omegaOf rate) (32 * c) i)
+tapOf c rate i = overSum (convert binary32 (tapSum (omegaOf rate) (32 * c) (32 * c + 1))) (rawTapOf (omegaOf rate) (32 * c) i)
 
 -- the table holds arm after arm, and arm a holds the taps a, a + 32, .. from its end
 abbrev pub tapAt : ℕ → ℕ → ℕ

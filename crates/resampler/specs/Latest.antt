@@ -15,9 +15,10 @@ use Rattle.laws.specs.FloatOrder.{plus, minus, le→, le-self, le-trans'}
 use Rattle.laws.specs.FloatSums.{In, in-finite, add-in, add-mono}
 use Rattle.laws.specs.FloatValues.{round-id}
 use Rattle.resampler.specs.declared.pass.Resampler.{Resampler}
-use Rattle.resampler.specs.Outputs.{tick, position, f0, half, twenty, far, Sound, one-on, X₁, in₁, no-minus, NonNeg}
+use Rattle.resampler.specs.Outputs.{tick, position, Sound, one-on, X₁, in₁, no-minus, NonNeg}
 use Rattle.resampler.specs.Ticks.{minus-zero}
-use Rattle.resampler.specs.Ready.{back, Passing, Going, on, due-few}
+use Rattle.resampler.specs.Admitted.{f0, half, twenty, far, back}
+use Rattle.resampler.specs.AdmittedLaws.{Passing, Going, on, due-few}
 
 position-mono : (x y : Float) → T (finite x) → T (finite y) → NonNeg x → NonNeg y → T (le x y) → position x ≤ position y
 unfolding position tick

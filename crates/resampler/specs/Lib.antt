@@ -1,10 +1,11 @@
 pub mod Dimensions
 pub mod Design
 pub mod Pass
-pub mod Front
+pub mod Admitted
+pub mod Lends
 pub mod Cases
 pub mod Ranges
-pub mod Ready
+pub mod AdmittedLaws
 pub mod Latest
 pub mod Forgets
 pub mod Taps

@@ -14,6 +14,7 @@ use lib.Ieee.Positive.{den, den-pos}
 use Rattle.laws.specs.FloatOrder.{plus, minus, le→, →le, le-trans'}
 use Rattle.laws.specs.FloatSums.{In, in-finite, add-in, add-mono}
 use Rattle.laws.specs.FloatFractions.{AtLeast, AtMost, add-least, add-most}
+use Rattle.resampler.specs.Admitted.{f0, half, twenty, far}
 
 -- ---- where the output x lies: 32 x rounded half up, in whole positions and 32nds. Phase 32 is 0 at the next position.
 unfoldable pub tick : Float → ℕ
@@ -108,19 +109,6 @@ gap (fin false m (pos k)) Q p t L h = whole Q (m * 2 ^ k) L h
 gap (fin false m (negsuc k)) Q p t L h = fine Q (2 ^ suc k) m L (digits false m (negsuc k) t) h
 
 -- ---- two steps
-abbrev pub f0 : Float
-f0 = fin false 0 (pos 0)
-
-abbrev pub half : Float
-half = fin false 1 (negsuc 0)
-
-abbrev pub twenty : Float
-twenty = fin false 5 (pos 2)
-
--- 2^53, which no next output reaches
-abbrev pub far : Float
-far = fin false 1 (pos 53)
-
 -- 2^47 - 1/64, the largest f64 below 2^47; 2^47 + 1/2; 2^47 + 1
 abbrev edge : Float
 edge = fin false 9007199254740991 (negsuc 5)

@@ -16,26 +16,32 @@ use Rattle.resampler.specs.declared.pass.Place.{Place}
 use Rattle.resampler.specs.declared.pass.Delivery.{Delivery}
 use Rattle.resampler.specs.declared.pass.Passed.{Passed}
 
+-- the arms of the table
+abbrev pub arms : Float
+arms = ofBits binary64 0x4040_0000_0000_0000  -- 32
+
 -- ---- where an output lies
 
 -- the whole part of x, and 32 times the rest to the nearest, a half away from zero; phase 32 becomes 0 at the next position
-unfoldable pub placeOf : Float → Place
-placeOf x =
+unfoldable pub placedOf : Float → Place
+placedOf x =
     let position = toUnsigned 64 (wholeOf downward binary64 x) in
-    let phase = toUnsigned 64 (wholeOf away binary64 (mul binary64 (sub binary64 x (ofInt binary64 (pos position))) (ofBits binary64 0x4040_0000_0000_0000))) in
+    let phase = toUnsigned 64 (wholeOf away binary64 (mul binary64 (sub binary64 x (ofInt binary64 (pos position))) arms)) in
     cond (eqb phase 32) (record { position = position + 1; phase = 0 }) (record { position = position; phase = phase })
 
 -- an output there needs a value that is not yet in
-abbrev pub waits : Resampler → Place → Bool
-waits r p = ltb (r .index) (p .position + (r .arm - r .half))
+abbrev pub waitingOf : Resampler → Place → Bool
+waitingOf r p = ltb (r .index) (p .position + (r .arm - r .half))
 
 -- ---- an output: the arm of the phase over the last c values, the oldest first
 
+-- the last c values of a plane of the ring, the oldest first
 abbrev pub windowOf : Resampler → List Float → List Float
 windowOf r plane = latest nan (r .arm + 16) plane (r .write) (r .arm)
 
-abbrev pub armOf : ℕ → List Float → ℕ → List Float
-armOf c table phase = take c (drop (phase * c) table)
+-- the taps of an arm in the table
+abbrev pub armAt : ℕ → List Float → ℕ → List Float
+armAt c table phase = take c (drop (phase * c) table)
 
 abbrev pub sumTurn : List Float → List Float → List Float → ℕ → Complex32 → Complex32
 sumTurn taps xs ys i s = record {
@@ -47,7 +53,7 @@ unfoldable pub sumOf : ℕ → List Float → List Float → List Float → Comp
 sumOf c taps xs ys = turns (sumTurn taps xs ys) c zeroPair
 
 abbrev pub filteredOf : Resampler → List Float → List Float → List Float → ℕ → Complex32
-filteredOf r table real imaginary phase = sumOf (r .arm) (armOf (r .arm) table phase) (windowOf r real) (windowOf r imaginary)
+filteredOf r table real imaginary phase = sumOf (r .arm) (armAt (r .arm) table phase) (windowOf r real) (windowOf r imaginary)
 
 -- ---- the pass: outputs until one needs a value that is not yet in, at most two
 
@@ -61,10 +67,10 @@ emittedOf d step v =
     (record { count = d .count + 1; first = d .first; second = v; next = add binary64 (d .next) step })
 
 abbrev pub isDone : Resampler → Delivery → Bool
-isDone r d = waits r (placeOf (d .next))
+isDone r d = waitingOf r (placedOf (d .next))
 
 abbrev pub passTurn : Resampler → List Float → List Float → List Float → Delivery → Delivery
-passTurn r table real imaginary d = emittedOf d (r .step) (filteredOf r table real imaginary (placeOf (d .next) .phase))
+passTurn r table real imaginary d = emittedOf d (r .step) (filteredOf r table real imaginary (placedOf (d .next) .phase))
 
 unfoldable pub deliveredOf : Resampler → List Float → List Float → List Float → Delivery
 deliveredOf r table real imaginary = until (isDone r) (passTurn r table real imaginary) 2 (startOf (r .next))
@@ -99,14 +105,29 @@ resampledOf r v table real imaginary =
 abbrev pub valuesOf : Passed → List Complex32
 valuesOf p = take (p .count) (p .first ∷ p .second ∷ [])
 
--- ---- may this state be run: what document 01 says of the resampler, with the input index held to 2 ^ 52
+-- ---- may this resampler be run
+
+-- where the next output lies at the least
+abbrev pub leastNext : Float
+leastNext = ofBits binary64 0x0000_0000_0000_0000  -- 0
+
+-- values an output: 9,600 and 384,000 values a second over 19,200
+abbrev pub leastStep : Float
+leastStep = ofBits binary64 0x3fe0_0000_0000_0000  -- 0.5
+
+abbrev pub mostStep : Float
+mostStep = ofBits binary64 0x4034_0000_0000_0000  -- 20
+
+-- the arm length 14 to 576, half of it, and a place in the ring of c + 16
 unfoldable pub sizesOk : Resampler → Bool
 sizesOk r = cond (ltb 576 (r .arm)) false (leb 14 (r .arm) && eqb (r .half) (r .arm / 2) && ltb (r .write) (r .arm + 16))
 
+-- at most 2^52 values came in; the step; and the next output from 0 to 600 past those values
 unfoldable pub rangesOk : Resampler → Bool
 rangesOk r =
     cond (ltb (2 ^ 52) (r .index)) false
-    (le (ofBits binary64 0x3fe0_0000_0000_0000) (r .step) && le (r .step) (ofBits binary64 0x4034_0000_0000_0000) && le (ofBits binary64 0) (r .next) && le (r .next) (ofInt binary64 (pos (r .index + 600))))
+    (le leastStep (r .step) && le (r .step) mostStep && le leastNext (r .next) && le (r .next) (ofInt binary64 (pos (r .index + 600))))
 
+-- both, and nothing is pending
 unfoldable pub admittedOf : Resampler → Bool
-admittedOf r = cond (sizesOk r) (cond (rangesOk r) (waits r (placeOf (r .next))) false) false
+admittedOf r = cond (sizesOk r) (cond (rangesOk r) (waitingOf r (placedOf (r .next))) false) false

@@ -4,7 +4,8 @@ use mathlib.Core.Path.{_≡_, refl, sym, ap, _∙_, subst}
 use mathlib.Core.Logic.{⊎-elim}
 use mathlib.Core.Bool.{Bool, true, false, cond, true≢false}
 use Prim.Native.Nat.{ℕ, zero, suc, _+_, _-_, _*_, _/_, _%_, _^_, _≤_, _<_, max}
-use native.Mathlib.Nat.{le-trans, le-of-eq, lt-of-le-of-lt, mul-one, mul-comm, mul-assoc, mul-right-comm, mul-left-comm, mul-pos, mul-le-mul-right, le-of-mul-le-mul-right, lt-of-mul-lt-mul-right, div-add-mod', div-mul-le-self, mod-lt, le-of-lt, le-of-suc-le-suc, div-lt-iff-lt-mul, zero-lt-suc, zero-mul, add-mul, lt-irrefl}
+use native.Mathlib.Nat.{le-trans, le-of-eq, lt-of-le-of-lt, mul-one, mul-comm, mul-assoc, mul-right-comm, mul-left-comm, mul-pos, mul-le-mul-right, le-of-mul-le-mul-right}
+use native.Mathlib.Nat.{lt-of-mul-lt-mul-right, div-add-mod', div-mul-le-self, mod-lt, le-of-lt, le-of-suc-le-suc, div-lt-iff-lt-mul, zero-lt-suc, zero-mul, add-mul, lt-irrefl}
 use native.Mathlib.Omega.{arith}
 use lib.Dec.{T, lit<, lit≤, eqb, eqb·suc-zero}
 use lib.IntN.{ℤ, pos}
@@ -28,12 +29,13 @@ use Rattle.laws.specs.FloatSizes.{round-small}
 use Rattle.laws.specs.FloatValues.{round-least, round-most}
 use Rattle.laws.specs.FloatSums.{In, in-finite, in-wider}
 use Rattle.resampler.specs.declared.dimensions.Dimensions.{Dimensions}
-use Rattle.resampler.specs.Dimensions.{nearestOf, decimationOf, decimatedOf, armOf, sizedOf, freshOf}
+use Rattle.resampler.specs.Dimensions.{nearestOf, decimationOf, decimatedOf, armLengthOf, sizedOf, freshOf}
 use Rattle.numbers.specs.Numbers.{wholeOf, away, signOf, minOf}
-use Rattle.resampler.specs.Outputs.{f0, half, twenty, no-minus}
+use Rattle.resampler.specs.Outputs.{no-minus}
 use Rattle.resampler.specs.Ticks.{nearest-at, minus-zero}
 use Rattle.resampler.specs.Scaled.{→lt}
-use Rattle.resampler.specs.Ready.{Ready, whole-le, whole-from-zero}
+use Rattle.resampler.specs.AdmittedLaws.{whole-le, whole-from-zero}
+use Rattle.resampler.specs.Admitted.{f0, half, twenty, AdmittedRate, Countable, Sized, Admitted}
 
 -- ---- a rounded fraction and a value that the format holds
 plain-nonneg : (y : Float) → T (signed false y) → T (finite y) → T (nonneg y)
@@ -104,16 +106,6 @@ divided (fin false m e) (fin false (suc n) g) a c b d C D B v w =
         ∙ (let r : a * E * (N * d) ≡ a * d * (N * E) = simp (mul-assoc, mul-comm, mul-left-comm) in r)
 
 -- ---- the decimation
-abbrev pub lowestRate : Float
-lowestRate = ofBits binary64 0x40c2_c000_0000_0000
-
-abbrev pub highestRate : Float
-highestRate = ofBits binary64 0x4173_12d0_0000_0000
-
--- what setup admits
-pub record AdmittedRate (rate : Float) : Type 0 where
-  pub range : In lowestRate highestRate rate
-
 lowest : Float
 lowest = fin false 75 (pos 7)
 
@@ -353,26 +345,23 @@ module _ (x : Float) (i : In (fin false 75 (pos 7)) (fin false 375 (pos 10)) x) 
   unfolding factor ofBits longest mul
   half-up-high = let l : halfUp longest ≤ 576 = lit≤ tt in le-trans (half-up-mono (mul binary64 factor x) longest product-nonneg tt (product-in .upper)) l
 
-  arm-near : armOf x ≡ max (halfUp (mul binary64 factor x)) 8
-  unfolding armOf factor
+  arm-near : armLengthOf x ≡ max (halfUp (mul binary64 factor x)) 8
+  unfolding armLengthOf factor
   arm-near =
       let y = mul binary64 factor x in
       ap (λ (k : ℕ). max k 8) (nearest-at y (num y) (den y) (den-pos y) (own y product-nonneg) (le-trans half-up-high (lit≤ tt)))
 
-  pub arm-low : 14 ≤ armOf x
+  pub arm-low : 14 ≤ armLengthOf x
   arm-low = let e = arm-near in let h = half-up-low in omega arith
 
-  pub arm-high : armOf x ≤ 576
+  pub arm-high : armLengthOf x ≤ 576
   arm-high = let e = arm-near in let h = half-up-high in omega arith
 
   pub step-in : In half twenty (div binary64 x (ofBits binary64 0x40d2_c000_0000_0000))
   unfolding ofBits div
   step-in = div-in binary64 (fin false 75 (pos 7)) (fin false 375 (pos 10)) (fin false 75 (pos 8)) tt tt i
 
--- ---- what the code's roundings ask: a value of 0 to 1024, of either sign of zero
-pub record Countable (x : Float) : Type 0 where
-  pub range : In f0 (fin false 1 (pos 10)) x
-
+-- ---- what the code's roundings ask
 whole-lt : (y : Float) (n : ℕ) → n < 2 ^ 53 → HasValue y false n 1 → T (lt (fin true 1 (pos 0)) y) × T (lt y (fin false 1 (pos 64)))
 whole-lt nan n h v = absurd v
 whole-lt (inf s) n h v = absurd v
@@ -406,21 +395,14 @@ module _ (rate : Float) (n d : ℕ) (f : Float)
 
   pub sized-code : (m c : ℕ) → m ≡ nearestOf (mul binary64 (ofBits binary64 0x3f58_9374_bc6a_7efa) (div binary64 rate f)) → c ≡ max m 8
       → _≡_ {A = Dimensions} (record { decimation = d; arm = c; rate = div binary64 rate f }) (sizedOf rate)
-  unfolding sizedOf decimationOf armOf
+  unfolding sizedOf decimationOf armLengthOf
   sized-code m c me ce =
       let e = decimated-code in
       let de' : d ≡ decimationOf rate = de ∙ ap (λ (k : ℕ). max k 1) ne in
-      let ce' : c ≡ armOf (decimatedOf rate) = ce ∙ ap (λ (k : ℕ). max k 8) me ∙ ap armOf e in
+      let ce' : c ≡ armLengthOf (decimatedOf rate) = ce ∙ ap (λ (k : ℕ). max k 8) me ∙ ap armLengthOf e in
       λ i. record { decimation = de' i; arm = ce' i; rate = e i }
 
 -- ---- THE THEOREM: what every admitted rate gives
-pub record Sized (s : Dimensions) : Type 0 where
-  pub decimation-low : 1 ≤ s .decimation
-  pub decimation-high : s .decimation ≤ 78
-  pub arm-low : 14 ≤ s .arm
-  pub arm-high : s .arm ≤ 576
-  pub rate-in : In (fin false 75 (pos 7)) (fin false 375 (pos 10)) (s .rate)
-
 pub sized-in : (rate : Float) → AdmittedRate rate → Sized (sizedOf rate)
 unfolding sizedOf
 sized-in rate a = record {
@@ -432,9 +414,9 @@ sized-in rate a = record {
 }
 
 -- a fresh resampler of such dimensions may be run
-pub fresh-ready : (s : Dimensions) → Sized s → Ready (freshOf s)
+pub fresh-admitted : (s : Dimensions) → Sized s → Admitted (freshOf s)
 unfolding freshOf
-fresh-ready s k =
+fresh-admitted s k =
     let h = s .arm / 2 in
     let l = k .arm-high in
     let m = k .arm-low in

@@ -17,10 +17,10 @@ use Rattle.laws.specs.FloatOrder.{plus, minus, sign-times, le→}
 use Rattle.laws.specs.FloatRounding.{signed, round-signed}
 use Rattle.laws.specs.FloatSums.{In, in-finite}
 use Rattle.laws.specs.FloatProducts.{mul-in}
-use Rattle.resampler.specs.Outputs.{tick, position, phase, f0, far, digits, no-minus}
+use Rattle.resampler.specs.Outputs.{tick, position, phase, digits, no-minus}
 use Rattle.resampler.specs.declared.pass.Place.{Place}
-use Rattle.resampler.specs.Pass.{placeOf}
-use Rattle.resampler.specs.Ready.{Near}
+use Rattle.resampler.specs.Pass.{placedOf}
+use Rattle.resampler.specs.Admitted.{f0, far, Near}
 use Rattle.resampler.specs.Ticks.{deep, pow-le, placed-is}
 
 abbrev pub sixty-four : Float
@@ -141,7 +141,7 @@ tick-code (fin true m e) i t =
 
 -- ---- the code's way to the place
 pub placed-code : (x : Float) → In f0 far x → T (fits binary64 x) → (h : ℕ) → h ≡ toUnsigned 64 (mul binary64 sixty-four x)
-    → _≡_ {A = Place} (record { position = (h / 2 + h % 2) / 32; phase = (h / 2 + h % 2) % 32 }) (placeOf x)
+    → _≡_ {A = Place} (record { position = (h / 2 + h % 2) / 32; phase = (h / 2 + h % 2) % 32 }) (placedOf x)
 unfolding position phase
 placed-code x i f h e =
     let k : (toUnsigned 64 (mul binary64 sixty-four x) + 1) / 2 ≡ tick x = tick-code x i f in
@@ -162,7 +162,7 @@ position-most x i =
     go : (p n D : ℕ) → n ≡ 0 → p * 1 + 0 * D ≤ 1 * 2 ^ 53 * D + n * 1 → 64 * p + D ≤ 2 * D * (32 * (2 ^ 53 + 1))
     go p n D e h = omega arith
 
-pub placed-near : (x : Float) → In f0 far x → T (fits binary64 x) → (p : Place) → p ≡ placeOf x → Near p
+pub placed-near : (x : Float) → In f0 far x → T (fits binary64 x) → (p : Place) → p ≡ placedOf x → Near p
 unfolding phase
 placed-near x i f p e =
     let k : p ≡ record { position = position x; phase = phase x } = e ∙ placed-is x i f in

@@ -12,18 +12,18 @@ use lib.Ieee.{Float, nan, binary32, binary64, ofBits, add}
 use Rattle.laws.specs.Turns.{turns, turns-more, turns-step}
 use Rattle.laws.specs.Places.{upto, upto-same, length-upto, turns-length, turns-keep, turns-at}
 use Rattle.numbers.specs.Numbers.{convert}
-use Rattle.resampler.specs.Design.{omegaOf, rawTap, sumTurn, tapSum, overSum, tapOf, tapAt, tableOf, writtenOf}
+use Rattle.resampler.specs.Design.{omegaOf, rawTapOf, tapSumTurn, tapSum, overSum, tapOf, tapAt, tableOf, writtenOf}
 
 -- where tap i stands: in arm i % 32, from its end
-abbrev pub tapPlace : ℕ → ℕ → ℕ
-tapPlace c i = i % 32 * c + (c - 1 - i / 32)
+abbrev pub tapPlaceOf : ℕ → ℕ → ℕ
+tapPlaceOf c i = i % 32 * c + (c - 1 - i / 32)
 
 module _ (c : ℕ) (C : 0 < c) where
   -- a place below 32 c is in one of 32 arms
   arm-of : (p : ℕ) → p < 32 * c → p / c < 32
   arm-of p h = div-lt-iff-lt-mul C .1 h
 
-  pub tap-there : (p : ℕ) → p < 32 * c → tapPlace c (tapAt c p) ≡ p
+  pub tap-there : (p : ℕ) → p < 32 * c → tapPlaceOf c (tapAt c p) ≡ p
   tap-there p h =
       let a = arm-of p h in
       let m = mod-lt p C in
@@ -35,7 +35,7 @@ module _ (c : ℕ) (C : 0 < c) where
   pub tap-in : (p : ℕ) → p < 32 * c → tapAt c p < 32 * c
   tap-in p h = let a = arm-of p h in let m = mod-lt p C in omega arith
 
-  pub tap-only : (i p : ℕ) → i < 32 * c → tapPlace c i ≡ p → i ≡ tapAt c p
+  pub tap-only : (i p : ℕ) → i < 32 * c → tapPlaceOf c i ≡ p → i ≡ tapAt c p
   tap-only i p h e =
       let b : c - 1 - i / 32 < c = omega arith in
       let q : p / c ≡ i % 32 = ap (λ (k : ℕ). k / c) (sym e) ∙ digits-div (i % 32) b in
@@ -43,7 +43,7 @@ module _ (c : ℕ) (C : 0 < c) where
       let l : i / 32 < c = div-lt-iff-lt-mul {k = 32} {x = i} {y = c} (lit< tt) .1 (let g : i < c * 32 = omega arith in g) in
       omega arith
 
-  pub place-in : (i : ℕ) → i < 32 * c → tapPlace c i < 32 * c
+  pub place-in : (i : ℕ) → i < 32 * c → tapPlaceOf c i < 32 * c
   place-in i h =
       let a : i % 32 < 32 = mod-lt i (lit< tt) in
       let l : i % 32 * c ≤ 31 * c = mul-le-mul-right c (let g : i % 32 ≤ 31 = omega arith in g) in
@@ -64,7 +64,7 @@ turns-map g d (suc n) l h =
 
 -- ---- the taps before the division
 abbrev pub rawTurn : Float → ℕ → ℕ → List Float → List Float
-rawTurn ω c i l = set l (tapPlace c i) (rawTap ω (32 * c) i)
+rawTurn ω c i l = set l (tapPlaceOf c i) (rawTapOf ω (32 * c) i)
 
 unfoldable pub rawOf : Float → ℕ → List Float → List Float
 rawOf ω c table = turns (rawTurn ω c) (32 * c) table
@@ -72,21 +72,21 @@ rawOf ω c table = turns (rawTurn ω c) (32 * c) table
 module _ (ω : Float) (c : ℕ) (C : 0 < c) (table : List Float) (room : 32 * c ≤ length table) where
   raw-length : length (rawOf ω c table) ≡ length table
   unfolding rawOf
-  raw-length = turns-length (rawTurn ω c) (32 * c) table (λ k m. length-set m (tapPlace c k) (rawTap ω (32 * c) k))
+  raw-length = turns-length (rawTurn ω c) (32 * c) table (λ k m. length-set m (tapPlaceOf c k) (rawTapOf ω (32 * c) k))
 
-  raw-at : (p : ℕ) → p < 32 * c → getD (rawOf ω c table) p nan ≡ rawTap ω (32 * c) (tapAt c p)
+  raw-at : (p : ℕ) → p < 32 * c → getD (rawOf ω c table) p nan ≡ rawTapOf ω (32 * c) (tapAt c p)
   unfolding rawOf
   raw-at p h =
-      turns-at (rawTurn ω c) (tapAt c p) (32 * c) table p nan (rawTap ω (32 * c) (tapAt c p)) (tap-in c C p h)
-      (λ m e. ap (λ (k : ℕ). getD (set m k (rawTap ω (32 * c) (tapAt c p))) p nan) (tap-there c C p h) ∙ getD-set-same m p (rawTap ω (32 * c) (tapAt c p)) nan (rw e (omega arith)))
-      (λ k m. length-set m (tapPlace c k) (rawTap ω (32 * c) k))
-      (λ k m a b. getD-set-other m (tapPlace c k) p (rawTap ω (32 * c) k) nan (λ e. let i = tap-only c C k p b (sym e) in omega arith))
+      turns-at (rawTurn ω c) (tapAt c p) (32 * c) table p nan (rawTapOf ω (32 * c) (tapAt c p)) (tap-in c C p h)
+      (λ m e. ap (λ (k : ℕ). getD (set m k (rawTapOf ω (32 * c) (tapAt c p))) p nan) (tap-there c C p h) ∙ getD-set-same m p (rawTapOf ω (32 * c) (tapAt c p)) nan (rw e (omega arith)))
+      (λ k m. length-set m (tapPlaceOf c k) (rawTapOf ω (32 * c) k))
+      (λ k m a b. getD-set-other m (tapPlaceOf c k) p (rawTapOf ω (32 * c) k) nan (λ e. let i = tap-only c C k p b (sym e) in omega arith))
 
   raw-rest : (p : ℕ) → 32 * c ≤ p → getD (rawOf ω c table) p nan ≡ getD table p nan
   unfolding rawOf turns
   raw-rest p h =
       turns-keep (rawTurn ω c) 0 (32 * c) table p nan (omega arith)
-      (λ k m a b. getD-set-other m (tapPlace c k) p (rawTap ω (32 * c) k) nan (λ e. let i = place-in c C k b in omega arith))
+      (λ k m a b. getD-set-other m (tapPlaceOf c k) p (rawTapOf ω (32 * c) k) nan (λ e. let i = place-in c C k b in omega arith))
 
   -- past the 32 c places nothing is written
   raw-drop : drop (32 * c) (rawOf ω c table) ≡ drop (32 * c) table
@@ -111,7 +111,7 @@ written-is c C rate table h =
     let s = convert binary32 (tapSum w (32 * c) (32 * c + 1)) in
     let raw = rawOf w c table in
     turns-map (overSum s) nan (32 * c) raw (rw (raw-length w c C table h) h)
-    ∙ (λ i. upto-same (λ k. overSum s (getD raw k nan)) (λ k. overSum s (rawTap w (32 * c) (tapAt c k))) (32 * c) (λ k l. ap (overSum s) (raw-at w c C table h k l)) i ++ raw-drop w c C table h i)
+    ∙ (λ i. upto-same (λ k. overSum s (getD raw k nan)) (λ k. overSum s (rawTapOf w (32 * c) (tapAt c k))) (32 * c) (λ k l. ap (overSum s) (raw-at w c C table h k l)) i ++ raw-drop w c C table h i)
 
 -- ---- the code's first loop: the taps and their sum at once
 pub record Raw : Type 0 where
@@ -119,7 +119,7 @@ pub record Raw : Type 0 where
   pub table : List Float
 
 abbrev pub bothTurn : Float → ℕ → ℕ → Raw → Raw
-bothTurn ω c i r = record { sum = sumTurn ω (32 * c) i (r .sum); table = rawTurn ω c i (r .table) }
+bothTurn ω c i r = record { sum = tapSumTurn ω (32 * c) i (r .sum); table = rawTurn ω c i (r .table) }
 
 abbrev pub startRaw : List Float → Raw
 startRaw table = record { sum = ofBits binary64 0; table = table }
@@ -128,20 +128,20 @@ startRaw table = record { sum = ofBits binary64 0; table = table }
 unfoldable pub rawFrom : Float → ℕ → List Float → Raw
 rawFrom ω c table = record { sum = tapSum ω (32 * c) (32 * c + 1); table = rawOf ω c table }
 
-both-turns : (ω : Float) (c n : ℕ) (table : List Float) → turns (bothTurn ω c) n (startRaw table) ≡ record { sum = turns (sumTurn ω (32 * c)) n (ofBits binary64 0); table = turns (rawTurn ω c) n table }
+both-turns : (ω : Float) (c n : ℕ) (table : List Float) → turns (bothTurn ω c) n (startRaw table) ≡ record { sum = turns (tapSumTurn ω (32 * c)) n (ofBits binary64 0); table = turns (rawTurn ω c) n table }
 unfolding turns
 both-turns ω c zero table = refl
 both-turns ω c (suc n) table = ap (bothTurn ω c n) (both-turns ω c n table)
 
 -- after the loop, one tap more for the sum
-pub raw-from : (ω : Float) (c : ℕ) (table : List Float) (r : Raw) (i : ℕ) (tap : Float) → r ≡ turns (bothTurn ω c) i (startRaw table) → i ≤ 32 * c → 32 * c ≤ i → tap ≡ rawTap ω (32 * c) (32 * c)
+pub raw-from : (ω : Float) (c : ℕ) (table : List Float) (r : Raw) (i : ℕ) (tap : Float) → r ≡ turns (bothTurn ω c) i (startRaw table) → i ≤ 32 * c → 32 * c ≤ i → tap ≡ rawTapOf ω (32 * c) (32 * c)
     → _≡_ {A = Raw} (record { sum = add binary64 (r .sum) tap; table = r .table }) (rawFrom ω c table)
 unfolding rawFrom tapSum rawOf
 raw-from ω c table r i tap e l g te =
     let n : i ≡ 32 * c = omega arith in
-    let f : r ≡ record { sum = turns (sumTurn ω (32 * c)) (32 * c) (ofBits binary64 0); table = turns (rawTurn ω c) (32 * c) table } = e ∙ ap (λ (k : ℕ). turns (bothTurn ω c) k (startRaw table)) n ∙ both-turns ω c (32 * c) table in
+    let f : r ≡ record { sum = turns (tapSumTurn ω (32 * c)) (32 * c) (ofBits binary64 0); table = turns (rawTurn ω c) (32 * c) table } = e ∙ ap (λ (k : ℕ). turns (bothTurn ω c) k (startRaw table)) n ∙ both-turns ω c (32 * c) table in
     (λ j. record { sum = add binary64 (f j .sum) (te j); table = f j .table })
-    ∙ (λ j. record { sum = sym (turns-more (sumTurn ω (32 * c)) (32 * c) (ofBits binary64 0)) j; table = turns (rawTurn ω c) (32 * c) table })
+    ∙ (λ j. record { sum = sym (turns-more (tapSumTurn ω (32 * c)) (32 * c) (ofBits binary64 0)) j; table = turns (rawTurn ω c) (32 * c) table })
 
 -- the two loops together
 pub table-written : (c : ℕ) → 0 < c → (rate ω : Float) (table middle : List Float) (sum short : Float) (last : List Float) → 32 * c ≤ length table → ω ≡ omegaOf rate
@@ -155,10 +155,10 @@ table-written c C rate ω table middle sum short last h we re se le =
 
 pub raw-room : (ω : Float) (c n : ℕ) (table : List Float) (r : Raw) → r ≡ turns (bothTurn ω c) n (startRaw table) → length (r .table) ≡ length table
 raw-room ω c n table r e =
-    ap (λ (t : Raw). length (t .table)) (e ∙ both-turns ω c n table) ∙ turns-length (rawTurn ω c) n table (λ k m. length-set m (tapPlace c k) (rawTap ω (32 * c) k))
+    ap (λ (t : Raw). length (t .table)) (e ∙ both-turns ω c n table) ∙ turns-length (rawTurn ω c) n table (λ k m. length-set m (tapPlaceOf c k) (rawTapOf ω (32 * c) k))
 
 -- one turn of the code's first loop
-pub both-next : (ω : Float) (c i place : ℕ) (table : List Float) (r : Raw) (tap wide : Float) → r ≡ turns (bothTurn ω c) i (startRaw table) → tap ≡ rawTap ω (32 * c) i → wide ≡ tap → place ≡ tapPlace c i
+pub both-next : (ω : Float) (c i place : ℕ) (table : List Float) (r : Raw) (tap wide : Float) → r ≡ turns (bothTurn ω c) i (startRaw table) → tap ≡ rawTapOf ω (32 * c) i → wide ≡ tap → place ≡ tapPlaceOf c i
     → _≡_ {A = Raw} (record { sum = add binary64 (r .sum) wide; table = set (r .table) place tap }) (turns (bothTurn ω c) (i + 1) (startRaw table))
 both-next ω c i place table r tap wide e te we pe =
     (λ j. record { sum = add binary64 (r .sum) ((we ∙ te) j); table = set (r .table) (pe j) (te j) }) ∙ turns-step (bothTurn ω c) i (startRaw table) r e

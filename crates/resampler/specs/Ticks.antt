@@ -3,7 +3,8 @@
 use mathlib.Core.Path.{_≡_, refl, sym, ap, _∙_, subst}
 use mathlib.Core.Logic.{⊎-elim}
 use Prim.Native.Nat.{ℕ, zero, suc, _+_, _-_, _*_, _/_, _%_, _^_, _≤_, _<_}
-use native.Mathlib.Nat.{le-refl, le-trans, le-of-eq, lt-of-le-of-lt, lt-of-lt-of-le, mul-one, one-mul, mul-comm, mul-assoc, mul-pos, div-add-mod', mod-lt, mod-le, mod-one, add-mul-div-right, sub-add-cancel, lt-irrefl, lt-of-not-le, not-le-of-lt, eq-of-mul-eq-mul-right, add-comm, le-of-suc-le-suc, div-lt-iff-lt-mul, div-le-of-le-mul, zero-lt-suc, pow-succ'}
+use native.Mathlib.Nat.{le-refl, le-trans, le-of-eq, lt-of-le-of-lt, lt-of-lt-of-le, mul-one, one-mul, mul-comm, mul-assoc, mul-pos, div-add-mod', mod-lt, mod-le}
+use native.Mathlib.Nat.{mod-one, add-mul-div-right, sub-add-cancel, lt-irrefl, lt-of-not-le, not-le-of-lt, eq-of-mul-eq-mul-right, add-comm, le-of-suc-le-suc, div-lt-iff-lt-mul, div-le-of-le-mul, zero-lt-suc, pow-succ'}
 use native.Mathlib.Omega.{arith}
 use native.Mathlib.Decide.{decLe}
 use mathlib.Core.Bool.{Bool, true, false, _&&_, cond, true≢false}
@@ -24,8 +25,9 @@ use Rattle.laws.specs.Places.{le-or}
 use Rattle.numbers.specs.Numbers.{wholeOf, away, downward}
 use Rattle.numbers.proofs.ToWhole.{away-is, whole-value}
 use Rattle.resampler.specs.declared.pass.Place.{Place}
-use Rattle.resampler.specs.Pass.{placeOf}
-use Rattle.resampler.specs.Outputs.{tick, position, phase, f0, far, digits, no-minus}
+use Rattle.resampler.specs.Pass.{placedOf}
+use Rattle.resampler.specs.Admitted.{f0, far}
+use Rattle.resampler.specs.Outputs.{tick, position, phase, digits, no-minus}
 
 -- ---- the whole part, and what is left over it
 unfoldable pub wholePart : Float → ℕ
@@ -233,8 +235,8 @@ module _ (m : ℕ) (e : ℤ) (t : T (fits binary64 (fin false m e))) (h : m * up
   at-most-32 = le-trans (le-of-eq left-over) most
 
   -- the Rust's steps give the place of the tick: phase 32 becomes 0 at the next position
-  pub placed-up : placeOf (fin false m e) ≡ record { position = position (fin false m e); phase = phase (fin false m e) }
-  unfolding placeOf ofBits position phase steps
+  pub placed-up : placedOf (fin false m e) ≡ record { position = position (fin false m e); phase = phase (fin false m e) }
+  unfolding placedOf ofBits position phase steps
   placed-up =
       let x = fin false m e in
       let p = m * up e / down e in
@@ -258,14 +260,14 @@ unfolding fits
 minus-zero zero e t h = ap (fin true 0) (zero-whole e (eqb→eq (up e * down e) 1 t))
 minus-zero (suc m) e t h = absurd (lt-irrefl 0 (subst (λ (n : ℕ). 0 < n) h (mul-pos (zero-lt-suc m) (up-pos e))))
 
-at-zero : placeOf (fin true 0 (pos 0)) ≡ record { position = position (fin true 0 (pos 0)); phase = phase (fin true 0 (pos 0)) }
-unfolding placeOf position phase wholeOf sub mul ofInt ofBits toUnsigned
+at-zero : placedOf (fin true 0 (pos 0)) ≡ record { position = position (fin true 0 (pos 0)); phase = phase (fin true 0 (pos 0)) }
+unfolding placedOf position phase wholeOf sub mul ofInt ofBits toUnsigned
 at-zero = refl
 
 pub whole-most : (a D : ℕ) → 0 < D → a ≤ 2 ^ 53 * D → a / D ≤ 2 ^ 53
 whole-most a D P h = div-le-of-le-mul D (le-trans h (le-of-eq (mul-comm (2 ^ 53) D)))
 
-pub placed-is : (x : Float) → In f0 far x → T (fits binary64 x) → placeOf x ≡ record { position = position x; phase = phase x }
+pub placed-is : (x : Float) → In f0 far x → T (fits binary64 x) → placedOf x ≡ record { position = position x; phase = phase x }
 placed-is nan i t = absurd (in-finite f0 far nan tt tt i)
 placed-is (inf s) i t = absurd (in-finite f0 far (inf s) tt tt i)
 placed-is (fin false m e) i t =
@@ -273,4 +275,4 @@ placed-is (fin false m e) i t =
     placed-up m e t (whole-most (m * up e) (down e) (down-pos e) (omega arith))
 placed-is (fin true m e) i t =
     let z = minus-zero m e t (no-minus (fin true m e) tt (i .lower)) in
-    subst (λ (x : Float). placeOf x ≡ record { position = position x; phase = phase x }) (sym z) at-zero
+    subst (λ (x : Float). placedOf x ≡ record { position = position x; phase = phase x }) (sym z) at-zero

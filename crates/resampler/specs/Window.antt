@@ -13,7 +13,7 @@ use Rattle.laws.specs.Ring.{start, latest}
 use Rattle.complex.specs.Complex.{zeroPair}
 use Rattle.complex.specs.declared.Complex32.{Complex32}
 use Rattle.resampler.specs.declared.pass.Resampler.{Resampler}
-use Rattle.resampler.specs.Pass.{armOf, sumTurn, sumOf, filteredOf}
+use Rattle.resampler.specs.Pass.{armAt, sumTurn, sumOf, filteredOf}
 
 -- ---- one straight run: `count` places of the planes and taps of the table, from a place of each
 abbrev pub runTurn : List Float → List Float → ℕ → List Float → ℕ → ℕ → Complex32 → Complex32
@@ -39,35 +39,37 @@ module _ (c write : ℕ) (in-ring : write < c + 16) (table real imaginary : List
   unfolding latest
   window-at plane i j h e = upto-at (λ k. getD plane ((start nan (c + 16) write c + k) % (c + 16)) nan) c i nan h ∙ ap (λ (k : ℕ). getD plane k nan) e
 
-  arm-at : (i : ℕ) → i < c → getD (armOf c table phase) i nan ≡ getD table (phase * c + i) nan
+  arm-at : (i : ℕ) → i < c → getD (armAt c table phase) i nan ≡ getD table (phase * c + i) nan
   arm-at i h = getD-take c (drop (phase * c) table) i nan h ∙ getD-drop (phase * c) table i nan
 
   -- a turn of the run and a turn of the sum, where both stand at the same place
   turn-same : (i from base j : ℕ) → i < c → (start nan (c + 16) write c + i) % (c + 16) ≡ from + j → base + j ≡ phase * c + i → (s : Complex32)
-      → runTurn real imaginary from table base j s ≡ sumTurn (armOf c table phase) (latest nan (c + 16) real write c) (latest nan (c + 16) imaginary write c) i s
+      → runTurn real imaginary from table base j s ≡ sumTurn (armAt c table phase) (latest nan (c + 16) real write c) (latest nan (c + 16) imaginary write c) i s
   turn-same i from base j h e f s =
-      let t : getD table (base + j) nan ≡ getD (armOf c table phase) i nan = ap (λ (k : ℕ). getD table k nan) f ∙ sym (arm-at i h) in
+      let t : getD table (base + j) nan ≡ getD (armAt c table phase) i nan = ap (λ (k : ℕ). getD table k nan) f ∙ sym (arm-at i h) in
       λ k. record {
         real = add binary32 (s .real) (mul binary32 (sym (window-at real i (from + j) h e) k) (t k));
         imaginary = add binary32 (s .imaginary) (mul binary32 (sym (window-at imaginary i (from + j) h e) k) (t k));
       }
 
   pub one-run : start nan (c + 16) write c + c ≤ c + 16
-      → runOf zeroPair real imaginary (start nan (c + 16) write c) table (phase * c) c ≡ sumOf c (armOf c table phase) (latest nan (c + 16) real write c) (latest nan (c + 16) imaginary write c)
+      → runOf zeroPair real imaginary (start nan (c + 16) write c) table (phase * c) c ≡ sumOf c (armAt c table phase) (latest nan (c + 16) real write c) (latest nan (c + 16) imaginary write c)
   unfolding runOf sumOf
   one-run h =
       turns-same _ _ c zeroPair (λ i s l. turn-same i (start nan (c + 16) write c) (phase * c) i l (mod-eq-of-lt (omega arith)) refl s)
 
   pub two-runs : (straight : ℕ) → straight + start nan (c + 16) write c ≡ c + 16 → straight ≤ c
       → runOf (runOf zeroPair real imaginary (start nan (c + 16) write c) table (phase * c) straight) real imaginary 0 table (phase * c + straight) (c - straight)
-      ≡ sumOf c (armOf c table phase) (latest nan (c + 16) real write c) (latest nan (c + 16) imaginary write c)
+      ≡ sumOf c (armAt c table phase) (latest nan (c + 16) real write c) (latest nan (c + 16) imaginary write c)
   unfolding runOf sumOf
   two-runs straight e h =
       let o = start nan (c + 16) write c in
-      let f = sumTurn (armOf c table phase) (latest nan (c + 16) real write c) (latest nan (c + 16) imaginary write c) in
+      let f = sumTurn (armAt c table phase) (latest nan (c + 16) real write c) (latest nan (c + 16) imaginary write c) in
       ap (λ (s : Complex32). turns (runTurn real imaginary 0 table (phase * c + straight)) (c - straight) s)
       (turns-same _ f straight zeroPair (λ i s l. turn-same i o (phase * c) i (omega arith) (mod-eq-of-lt (omega arith)) refl s))
-      ∙ turns-same _ (λ (i : ℕ). f (straight + i)) (c - straight) (turns f straight zeroPair) (λ i s l. turn-same (straight + i) 0 (phase * c + straight) i (omega arith) (ap (λ (k : ℕ). k % (c + 16)) (let g : o + (straight + i) ≡ c + 16 + (0 + i) = omega arith in g) ∙ add-mod-left (c + 16) (0 + i) ∙ mod-eq-of-lt (let g : 0 + i < c + 16 = omega arith in g)) (omega arith) s)
+      ∙ turns-same _ (λ (i : ℕ). f (straight + i)) (c - straight) (turns f straight zeroPair)
+      (λ i s l. turn-same (straight + i) 0 (phase * c + straight) i (omega arith)
+      (ap (λ (k : ℕ). k % (c + 16)) (let g : o + (straight + i) ≡ c + 16 + (0 + i) = omega arith in g) ∙ add-mod-left (c + 16) (0 + i) ∙ mod-eq-of-lt (let g : 0 + i < c + 16 = omega arith in g)) (omega arith) s)
       ∙ turns-plus f straight (c - straight) zeroPair
       ∙ ap (λ (n : ℕ). turns f n zeroPair) (let g : straight + (c - straight) ≡ c = omega arith in g)
 

@@ -2,14 +2,17 @@
 ghost use mathlib.Core.Path.{_≡_};
 ghost use Prim.Native.Nat.{_+_, _*_, _<_, _≤_};
 ghost use lib.ListN.{length};
-ghost use Rattle.resampler.specs.Design.{waveOf, rawTap, writtenOf};
-ghost use Rattle.resampler.specs.Taps.{tapPlace, Raw, rawFrom, dividedOf};
+ghost use Rattle.resampler.specs.Design.{waveOf, rawTapOf, writtenOf};
+ghost use Rattle.resampler.specs.Taps.{tapPlaceOf, Raw, rawFrom, dividedOf};
 use numbers::narrow::narrow;
 use numbers::narrow::widen;
 use routines::circle::cosine;
 use routines::circle::sine;
 
-// 2 pi.
+// The places of a table that has room for every rate: 32 arms of at most 576 taps.
+pub const TABLE: usize = 18432;
+
+// 2 pi radians.
 const TURN: f64 = 6.283185307179586;
 
 // The sine over its distance x from the middle; the limit in the middle itself.
@@ -19,9 +22,10 @@ fn wave(omega: f64, x: f64) -> f64
     if x == 0.0 { omega } else { sine(omega * x) / x }
 }
 
-// Tap i of those from 0 to last, before the division by their sum.
+// Tap i of those from 0 to `last`, before the division by their sum: the wave under a Hamming window.
+// `omega` is the cutoff in radians a tap.
 fn raw_tap(omega: f64, last: usize, i: usize) -> f32
-    ensures { λ r. ⌜ r ≡ rawTap omega last i ⌝ }
+    ensures { λ r. ⌜ r ≡ rawTapOf omega last i ⌝ }
 {
     let place = std::num::nearest_u64_to_f64(i as u64);
     let end = std::num::nearest_u64_to_f64(last as u64);
@@ -33,7 +37,7 @@ fn raw_tap(omega: f64, last: usize, i: usize) -> f32
 fn tap_place(arm: usize, i: usize) -> usize
     requires { ⌜ i < 32 * arm ⌝ }
     requires { ⌜ arm ≤ 576 ⌝ }
-    ensures same { λ r. ⌜ r ≡ tapPlace arm i ⌝ }
+    ensures same { λ r. ⌜ r ≡ tapPlaceOf arm i ⌝ }
     ensures inside { λ r. ⌜ r < 32 * arm ⌝ }
 {
     i % 32 * arm + (arm - 1 - i / 32)
@@ -70,7 +74,8 @@ fn divide(sum: f32, count: usize, table: &mut [f32])
     }
 }
 
-// For values that come at a rate; writes the first 32 c places of the table.
+// Designs the filter for values that come at `rate` a second, 32 arms of `arm` taps with a cutoff of 4,200
+// hertz, and writes the first 32 `arm` places of the table.
 pub fn write_table(arm: usize, rate: f64, table: &mut [f32])
     requires { ⌜ 1 ≤ arm ⌝ }
     requires { ⌜ arm ≤ 576 ⌝ }

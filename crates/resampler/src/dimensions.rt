@@ -2,10 +2,11 @@
 ghost use mathlib.Core.Path.{_≡_};
 ghost use Prim.Native.Nat as Nat;
 ghost use Rattle.resampler.specs.Dimensions.{nearestOf, sizedOf, freshOf};
-ghost use Rattle.resampler.specs.Ranges.{Countable, AdmittedRate, Sized};
+ghost use Rattle.resampler.specs.Admitted.{Countable, AdmittedRate, Sized};
 use super::pass::Resampler;
 use numbers::whole::round;
 
+// What setup fixes for a rate.
 pub struct Dimensions {
     // 1 to 78
     pub decimation: usize,
@@ -15,12 +16,14 @@ pub struct Dimensions {
     pub rate: f64,
 }
 
+// The larger of the two.
 fn at_least(n: u64, bound: u64) -> u64
     ensures { λ r. ⌜ r ≡ Nat.max n bound ⌝ }
 {
     if n < bound { bound } else { n }
 }
 
+// To the nearest whole number, a half away from zero.
 fn nearest(x: f64) -> u64
     requires { ⌜ Countable x ⌝ }
     ensures { λ r. ⌜ r ≡ nearestOf x ⌝ }
@@ -28,7 +31,8 @@ fn nearest(x: f64) -> u64
     std::num::truncating_f64_to_u64(round(x))
 }
 
-// For 9,600 to 20,000,000 samples a second.
+// For 9,600 to 20,000,000 samples a second: the decimation that comes nearest to 256,000 values a second,
+// and arms that span 1.5 milliseconds of them.
 pub fn sized(rate: f64) -> Dimensions
     requires { ⌜ AdmittedRate rate ⌝ }
     ensures same { λ r. ⌜ r ≡ sizedOf rate ⌝ }
@@ -44,6 +48,7 @@ pub fn sized(rate: f64) -> Dimensions
     }
 }
 
+// Nothing has come in; the first output lies half an arm in.
 pub fn fresh(dimensions: Dimensions) -> Resampler
     ensures { λ r. ⌜ r ≡ freshOf dimensions ⌝ }
 {

@@ -5,15 +5,23 @@ ghost use lib.Ieee.{nan};
 ghost use lib.ListN.{length, set};
 ghost use Rattle.laws.specs.FloatSums.{In};
 ghost use Rattle.laws.specs.Ring.{start};
-ghost use Rattle.resampler.specs.Outputs.{f0, far};
-ghost use Rattle.resampler.specs.Pass.{placeOf, waits, filteredOf, emittedOf, deliveredOf, pushedOf, Sampled, resampledOf, sizesOk, rangesOk, admittedOf};
+ghost use Rattle.resampler.specs.Pass.{placedOf, waitingOf, filteredOf, emittedOf, deliveredOf, pushedOf, resampledOf, sizesOk, rangesOk, admittedOf};
 ghost use Rattle.resampler.specs.Window.{runOf};
-ghost use Rattle.resampler.specs.Ready.{Near, Dimensioned, Passing, Ready, Kept};
+ghost use Rattle.resampler.specs.Admitted.{f0, far, Near, Dimensioned, Admitted, PassKeeps};
+ghost use Rattle.resampler.specs.AdmittedLaws.{Passing};
+ghost use Rattle.resampler.specs.Lends.{leaves};
 use complex::Complex32;
+
+// The places of a plane that holds a ring: a ring has arm + 16, at most 576 + 16.
+pub const PLACES: usize = 592;
+
+// 2 to the power 52: so many values come in at most.
+const LIMIT: u64 = 4503599627370496;
 
 pub struct Resampler {
     // taps an arm: 14 to 576
     pub arm: usize,
+    // half of that, rounded down: an output's window starts so many values before its position
     pub half: usize,
     // values an output: 0.5 to 20
     pub step: f64,
@@ -39,6 +47,7 @@ pub struct Delivery {
     pub next: f64,
 }
 
+// The resampler after a value, and the outputs that the value makes due: the first `count` of the two.
 pub struct Passed {
     pub resampler: Resampler,
     pub count: usize,
@@ -46,11 +55,11 @@ pub struct Passed {
     pub second: Complex32,
 }
 
-// 64 x is exact, and its whole part, halved, is 32 x rounded half away; phase 32 is 0 at the next
-// position.
+// Where an output lies: 64 x is exact, and its whole part, halved, is 32 x rounded half away from zero;
+// phase 32 is 0 at the next position.
 fn placed(x: f64) -> Place
     requires { ⌜ In f0 far x ⌝ }
-    ensures same { λ r. ⌜ r ≡ placeOf x ⌝ }
+    ensures same { λ r. ⌜ r ≡ placedOf x ⌝ }
     ensures near { λ r. ⌜ Near r ⌝ }
 {
     let h = std::num::truncating_f64_to_u64(64.0 * x);
@@ -65,7 +74,7 @@ fn placed(x: f64) -> Place
 fn is_waiting(r: Resampler, p: Place) -> bool
     requires { ⌜ Dimensioned r ⌝ }
     requires { ⌜ Near p ⌝ }
-    ensures { λ b. ⌜ b ≡ waits r p ⌝ }
+    ensures { λ b. ⌜ b ≡ waitingOf r p ⌝ }
 {
     r.index < p.position + ((r.arm - r.half) as u64)
 }
@@ -87,11 +96,12 @@ fn oldest_place(write: usize, arm: usize) -> usize
     if write < arm { write + 16 } else { write - arm }
 }
 
-// Goes on from `s` over `count` places of the ring and taps of the table.
+// The sum `s` and, one after the other, the products of `count` places of the ring from `from` on with
+// the taps of the table from `base` on.
 fn summed(
     s: Complex32,
-    reals: &[f32; 592],
-    imaginaries: &[f32; 592],
+    reals: &[f32; PLACES],
+    imaginaries: &[f32; PLACES],
     from: usize,
     table: &[f32],
     base: usize,
@@ -118,8 +128,8 @@ fn filtered(
     r: Resampler,
     phase: usize,
     table: &[f32],
-    reals: &[f32; 592],
-    imaginaries: &[f32; 592],
+    reals: &[f32; PLACES],
+    imaginaries: &[f32; PLACES],
 ) -> Complex32
     requires { ⌜ Dimensioned r ⌝ }
     requires { ⌜ phase < 32 ⌝ }
@@ -163,7 +173,12 @@ fn emitted(d: Delivery, step: f64, value: Complex32) -> Delivery
 }
 
 // Outputs until one needs a value that is not yet in: its position is where the next pass goes on.
-fn delivered(r: Resampler, table: &[f32], reals: &[f32; 592], imaginaries: &[f32; 592]) -> Delivery
+fn delivered(
+    r: Resampler,
+    table: &[f32],
+    reals: &[f32; PLACES],
+    imaginaries: &[f32; PLACES],
+) -> Delivery
     requires { ⌜ Dimensioned r ⌝ }
     requires { ⌜ Passing r ⌝ }
     requires { ⌜ 32 * r .arm ≤ length (now table) ⌝ }
@@ -191,6 +206,7 @@ fn delivered(r: Resampler, table: &[f32], reals: &[f32; 592], imaginaries: &[f32
     e
 }
 
+// Whether the arm length, its half and the ring's place are in range.
 fn has_sizes(r: Resampler) -> bool
     ensures { λ b. ⌜ b ≡ sizesOk r ⌝ }
 {
@@ -200,17 +216,18 @@ fn has_sizes(r: Resampler) -> bool
     (r.arm >= 14) & (r.half == r.arm / 2) & (r.write < r.arm + 16)
 }
 
+// Whether the count of values, the step and the next output's position are in range.
 fn has_ranges(r: Resampler) -> bool
     ensures { λ b. ⌜ b ≡ rangesOk r ⌝ }
 {
-    if r.index > 4503599627370496 {
+    if r.index > LIMIT {
         return false;
     }
     let end = std::num::nearest_u64_to_f64(r.index + 600);
     (r.step >= 0.5) & (r.step <= 20.0) & (r.next >= 0.0) & (r.next <= end)
 }
 
-// Whether this state may be run, be it from a setup or handed in.
+// Whether this resampler may be run, be it from a setup or handed in: in range, and nothing pending.
 pub fn is_admitted(r: Resampler) -> bool
     ensures { λ b. ⌜ b ≡ admittedOf r ⌝ }
 {
@@ -226,8 +243,8 @@ pub fn is_admitted(r: Resampler) -> bool
 fn pushed(
     r: Resampler,
     value: Complex32,
-    reals: &mut [f32; 592],
-    imaginaries: &mut [f32; 592],
+    reals: &mut [f32; PLACES],
+    imaginaries: &mut [f32; PLACES],
 ) -> Resampler
     requires { ⌜ Dimensioned r ⌝ }
     requires { ⌜ r .index < 2 ^ 52 ⌝ }
@@ -249,14 +266,15 @@ pub fn resampled(
     r: Resampler,
     value: Complex32,
     table: &[f32],
-    reals: &mut [f32; 592],
-    imaginaries: &mut [f32; 592],
+    reals: &mut [f32; PLACES],
+    imaginaries: &mut [f32; PLACES],
 ) -> Passed
-    requires { ⌜ Ready r ⌝ }
+    requires { ⌜ Admitted r ⌝ }
     requires { ⌜ r .index < 2 ^ 52 ⌝ }
     requires { ⌜ 32 * r .arm ≤ length (now table) ⌝ }
-    ensures same { λ p. ⌜ _≡_ {A = Sampled} (record { passed = p; real = now (reals .exit); imaginary = now (imaginaries .exit) }) (resampledOf r value (now (table .entry)) (now (reals .entry)) (now (imaginaries .entry))) ⌝ }
-    ensures kept { λ p. ⌜ Kept r p ⌝ }
+    ensures same { λ p. ⌜ leaves p reals imaginaries
+        (λ real imaginary after. after ≡ resampledOf r value (now (table .entry)) real imaginary) ⌝ }
+    ensures kept { λ p. ⌜ PassKeeps r p ⌝ }
 {
     let q = pushed(r, value, &mut *reals, &mut *imaginaries);
     let d = delivered(q, table, reals, imaginaries);

@@ -7,7 +7,7 @@ use lib.ListN.{length}
 use lib.Ieee.{Float}
 use denote.Ref.{now}
 use Rattle.front.specs.Front as front
-use Rattle.front.specs.Ready as fit
+use Rattle.front.specs.Admitted as fit
 use Rattle.laws.specs.Lent.{Now, Lends}
 use Rattle.chain.specs.Chain.{stateOf}
 use Rattle.chain.specs.Rows.{Lent, chainOf}
@@ -91,7 +91,7 @@ module _ (conjugated : Bool) (table xs : List Float) (w : Whole) where
 -- what a run asks
 pub record ReadyRun (table xs : List Float) (w : Whole) : Type 0 where
   pub start : w .from ≡ 0
-  pub ready : fit.Ready (w .rung .place)
+  pub ready : fit.Admitted (w .rung .place)
   pub numbers : fit.Numbers xs
   pub table-in : 32 * w .rung .place .resampler .arm ≤ length table
   pub index-in : w .rung .place .resampler .index + length xs / 2 ≤ 2 ^ 52

@@ -11,7 +11,7 @@ use Rattle.complex.specs.declared.Complex32.{Complex32}
 use Rattle.front.specs.declared.Fronted.{Fronted}
 use Rattle.front.specs.declared.FrontPlace.{FrontPlace}
 use Rattle.front.specs.Front as front
-use Rattle.front.specs.Ready as fit
+use Rattle.front.specs.Admitted as fit
 use Rattle.front.specs.Draws.{next-none, next-on}
 use Rattle.front.specs.Rows.{Filled, filled}
 use Rattle.chain.specs.Rows.{Lent, valuesOf, chainOf}
@@ -33,15 +33,15 @@ module _ (conjugated : Bool) (table xs : List Float) (w : Whole) where
 
   module _ (v : Whole) (k : ReadyRun table xs w) (g : Going conjugated table xs w v) where
     pub front-asks : v .from < length xs / 2
-        → fit.Ready (v .rung .place) × (fit.Numbers xs × ((32 * v .rung .place .resampler .arm ≤ length table) × ((v .rung .place .resampler .index + (length xs / 2 - v .from) ≤ 2 ^ 52) × (v .from ≤ length xs / 2))))
+        → fit.Admitted (v .rung .place) × (fit.Numbers xs × ((32 * v .rung .place .resampler .arm ≤ length table) × ((v .rung .place .resampler .index + (length xs / 2 - v .from) ≤ 2 ^ 52) × (v .from ≤ length xs / 2))))
     front-asks l =
         let a = g .next .arm in
         let b = g .next .index in
         let c = k .index-in in
         let d = k .table-in in
-        (g .next .ready, (k .numbers, (omega arith, (omega arith, omega arith))))
+        (g .next .admitted, (k .numbers, (omega arith, (omega arith, omega arith))))
 
-    pub chain-asks : (f : Fronted) → fit.Kept (length xs / 2 - v .from) (v .rung .place) f → Asks (f .made) (v .lent) × (f .made ≤ 256)
+    pub chain-asks : (f : Fronted) → fit.CallKeeps (length xs / 2 - v .from) (v .rung .place) f → Asks (f .made) (v .lent) × (f .made ≤ 256)
     chain-asks f q =
         let a = k .asks .symbols in
         let b = k .asks .room .dibits in
@@ -58,7 +58,7 @@ module _ (conjugated : Bool) (table xs : List Float) (w : Whole) where
     -- the turn: a row from the front, and the row through the chain
     module _ (f : Fronted) (rr ri yr yi zr zi : List Float) (lr : length rr ≡ 256) (li : length ri ≡ 256)
         (fe : front.frontNow f (v .from) yr yi zr zi ≡ front.filledOf conjugated table xs (front.frontNow (front.startOf (v .rung .place)) (v .from) (v .rung .real) (v .rung .imaginary) rr ri))
-        (q : fit.Kept (length xs / 2 - v .from) (v .rung .place) f) where
+        (q : fit.CallKeeps (length xs / 2 - v .from) (v .rung .place) f) where
       abbrev before : front.Front
       before = front.frontNow (front.startOf (v .rung .place)) (v .from) (v .rung .real) (v .rung .imaginary) rr ri
 
@@ -118,8 +118,8 @@ module _ (conjugated : Bool) (table xs : List Float) (w : Whole) where
       ∙ (λ i. record { rung = frontAt conjugated table xs w (e i) .rung; lent = lentAt conjugated table xs w (e i); from = e i })
 
 -- a turn uses some samples
-pub going-less : (p : FrontPlace) (f : Fronted) (n from : ℕ) → from < n → fit.Kept (n - from) p f → n - (from + f .used) < n - from
+pub going-less : (p : FrontPlace) (f : Fronted) (n from : ℕ) → from < n → fit.CallKeeps (n - from) p f → n - (from + f .used) < n - from
 going-less p f n from l q = let a = q .some (omega arith) in let b = q .most in omega arith
 
-pub going-within : (p : FrontPlace) (f : Fronted) (n from : ℕ) → from < n → fit.Kept (n - from) p f → from + f .used ≤ n
+pub going-within : (p : FrontPlace) (f : Fronted) (n from : ℕ) → from < n → fit.CallKeeps (n - from) p f → from + f .used ≤ n
 going-within p f n from l q = let b = q .most in omega arith

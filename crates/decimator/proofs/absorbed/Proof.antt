@@ -1,4 +1,4 @@
--- `decimator::absorbed` meets its contract. Assumes nothing.
+-- `absorbed` meets its contract: what `integrated` makes of each part. Assumes nothing.
 use borrow.Author.Needs.{needs}
 use mir.Val.{SFits}
 use mir.Syntax.{w64}
@@ -14,9 +14,9 @@ integrated-requires-2 c κs = search needs
 
 returns : tie.Need-returns
 returns c =
-    let z = c .before .before .before .before .before .before in
-    let h : SFits w64 (z .args .n .real) = search needs in
-    let k : SFits w64 (z .args .n .imaginary) = search needs in
+    let entry = c .before .before .before .before .before .before in
+    let h : SFits w64 (entry .args .n .real) = search needs in
+    let k : SFits w64 (entry .args .n .imaginary) = search needs in
     rw (c .integrated2 .ensures, c .before .before .integrated .ensures, toZ-ofZ h, toZ-ofZ k)
 
 pub absorbed-spec : {M : Type 1} → statement M

@@ -1,4 +1,4 @@
--- `decimator::advanced` meets its contract. Assumes nothing.
+-- `advanced` meets its contract: before the d-th sample the counter goes on, and at it what `sounded` makes. Assumes nothing.
 use borrow.Author.Needs.{needs}
 use Rattle.decimator.specs.Decimator.{soundedOf}
 use mathlib.Core.Path.{ap, _∙_}
@@ -22,14 +22,16 @@ sounded-requires c κs = search needs
 returns : tie.Need-returns
 unfolding advancedOf
 returns c =
-    rw (lt-ltb _ _ (c .before .before .if1 .taken), c .before .before .before .before .before .absorbed .ensures)
+    let absorbed = c .before .before .before .before .before .absorbed in
+    rw (lt-ltb _ _ (c .before .before .if1 .taken), absorbed .ensures)
 
 returns-2 : tie.Need-returns-2
 unfolding advancedOf
 returns-2 c =
-    let z = c .before .before .before .before .before .before in
+    let absorbed = c .before .before .before .before .absorbed in
+    let entry = c .before .before .before .before .before .before in
     c .sounded .ensures
-    ∙ ap (soundedOf (z .args .d)) (c .before .before .before .before .absorbed .ensures)
+    ∙ ap (soundedOf (entry .args .d)) (absorbed .ensures)
     ∙ rw (le-ltb _ _ (c .before .if1 .left))
 
 pub advanced-spec : {M : Type 1} → statement M

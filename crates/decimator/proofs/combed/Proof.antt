@@ -1,4 +1,4 @@
--- `decimator::combed` meets its contract. Assumes nothing.
+-- `combed` meets its contract: each difference of two words is the one modulo 2^64. Assumes nothing.
 use borrow.Author.Needs.{needs}
 use mir.Val.{Fits}
 use mir.Syntax.{w64}
@@ -22,15 +22,15 @@ signed-requires c κs = search needs
 
 returns : tie.Need-returns
 returns c =
-    let z = c .before .before .before .before in
+    let entry = c .before .before .before .before in
     let a = c .before .before .before .wrapping-sub-u64 in
     let b = c .before .before .wrapping-sub-u642 in
     let d = c .before .wrapping-sub-u643 in
-    let first : Fits w64 (z .args .y .first) = search needs in
-    let second : Fits w64 (z .args .y .second) = search needs in
-    let third : Fits w64 (z .args .y .third) = search needs in
-    let words : Differences (z .args .y) (z .args .sum) (a .result) (b .result) (d .result) = record {
-      sum-word = z .fits .sum .fits;
+    let first : Fits w64 (entry .args .y .first) = search needs in
+    let second : Fits w64 (entry .args .y .second) = search needs in
+    let third : Fits w64 (entry .args .y .third) = search needs in
+    let words : Differences (entry .args .y) (entry .args .sum) (a .result) (b .result) (d .result) = record {
+      sum-word = entry .fits .sum .fits;
       first-word = first .fits;
       second-word = second .fits;
       third-word = third .fits;
@@ -38,7 +38,7 @@ returns c =
       b-word = b .ok;
       c-word = d .ok;
     } in
-    rw (toZ-ofZ (record { sfits = c .signed .ok })) (combed-is (z .args .y) (z .args .sum) (a .result) (b .result) (d .result) (c .signed .result) words (a .ensures) (b .ensures) (d .ensures) (c .signed .ensures))
+    rw (toZ-ofZ (record { sfits = c .signed .ok })) (combed-is (entry .args .y) (entry .args .sum) (a .result) (b .result) (d .result) (c .signed .result) words (a .ensures) (b .ensures) (d .ensures) (c .signed .ensures))
 
 pub combed-spec : {M : Type 1} → statement M
 combed-spec =

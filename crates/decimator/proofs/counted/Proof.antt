@@ -1,4 +1,4 @@
--- `decimator::counted` meets its contract. Assumes nothing.
+-- `counted` meets its contract: each part is quantised. Assumes nothing.
 use borrow.Author.Needs.{needs}
 use mir.Facts.{toZ-ofZ}
 use Rattle.decimator.proofs.counted.Statement.{statement}

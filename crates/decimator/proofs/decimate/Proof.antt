@@ -1,4 +1,4 @@
--- `decimator::decimate` meets its contract. Assumes nothing.
+-- `decimate` meets its contract: what `released` leaves, and its sums scaled. Assumes nothing.
 use borrow.Author.Needs.{needs}
 use Rattle.decimator.proofs.decimate.Statement.{statement}
 use Rattle.decimator.proofs.decimate.Tie as tie

@@ -1,4 +1,4 @@
--- `decimator::float` meets its contract. Assumes nothing.
+-- `float` meets its contract: below 2^53 in size the cast is exact, and from there on `from_i64` rounds. Assumes nothing.
 use borrow.Author.Needs.{needs}
 use Rattle.decimator.specs.Steps.{small-float}
 use lib.Ieee.{binary64, ofInt}

@@ -1,4 +1,4 @@
--- `decimator::fresh` meets its contract. Assumes nothing.
+-- `fresh` meets its contract: every number is 0. Assumes nothing.
 use borrow.Author.Needs.{needs}
 use Rattle.decimator.specs.Decimator.{freshOf}
 use Rattle.decimator.proofs.fresh.Statement.{statement}

@@ -1,4 +1,4 @@
--- `decimator::gathered` meets its contract. Assumes nothing.
+-- `gathered` meets its contract: the sample is quantised and absorbed. Assumes nothing.
 use borrow.Author.Needs.{needs}
 use Rattle.decimator.proofs.gathered.Statement.{statement}
 use Rattle.decimator.proofs.gathered.Tie as tie

@@ -1,4 +1,4 @@
--- `decimator::integrated` meets its contract. Assumes nothing.
+-- `integrated` meets its contract: each sum of two words is the one modulo 2^64. Assumes nothing.
 use borrow.Author.Needs.{needs}
 use Rattle.numbers.specs.Bits.{unsignedOf}
 use mathlib.Core.Path.{ap, _∙_}
@@ -21,12 +21,12 @@ wrapping-add-u64-requires-3 c κs = search needs
 
 returns : tie.Need-returns
 returns c =
-    let z = c .before .before .before .before in
+    let entry = c .before .before .before .before in
     let a = c .before .before .wrapping-add-u64 in
     let b = c .before .wrapping-add-u642 in
     let e = c .before .before .before .unsigned in
-    integrated-is (z .args .s) (z .args .n) (e .result) (a .result) (b .result) (c .wrapping-add-u643 .result) (z .fits .n .sfits)
-    (e .ensures ∙ ap unsignedOf (toZ-ofZ (z .fits .n))) (a .ensures) (b .ensures) (c .wrapping-add-u643 .ensures)
+    integrated-is (entry .args .s) (entry .args .n) (e .result) (a .result) (b .result) (c .wrapping-add-u643 .result) (entry .fits .n .sfits)
+    (e .ensures ∙ ap unsignedOf (toZ-ofZ (entry .fits .n))) (a .ensures) (b .ensures) (c .wrapping-add-u643 .ensures)
 
 pub integrated-spec : {M : Type 1} → statement M
 integrated-spec =

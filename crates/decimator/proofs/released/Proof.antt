@@ -1,4 +1,4 @@
--- `decimator::released` meets its contract. Assumes nothing.
+-- `released` meets its contract: what `combed` makes of each part's third sum. Assumes nothing.
 use borrow.Author.Needs.{needs}
 use mir.Val.{SFits}
 use mir.Syntax.{w64}

@@ -1,4 +1,4 @@
--- `decimator::scale` meets its contract. Assumes nothing.
+-- `scale` meets its contract: the cube is multiplied in the order of the definition. Assumes nothing.
 use borrow.Author.Needs.{needs}
 use Rattle.decimator.specs.Decimator.{scaleOf}
 use Rattle.decimator.proofs.scale.Statement.{statement}

@@ -1,4 +1,4 @@
--- `decimator::scaled` meets its contract. Assumes nothing.
+-- `scaled` meets its contract: each part as a float, times the scale, narrowed once. Assumes nothing.
 use borrow.Author.Needs.{needs}
 use mir.Val.{SFits}
 use mir.Syntax.{w64}
@@ -23,10 +23,12 @@ narrow-requires-2 c κs = search needs
 
 returns : tie.Need-returns
 returns c =
-    let z = c .before .before .before .before .before .before .before in
-    let h : SFits w64 (z .args .n .real) = search needs in
-    let k : SFits w64 (z .args .n .imaginary) = search needs in
-    rw (c .narrow2 .ensures, c .before .before .before .narrow .ensures, c .before .float2 .ensures, c .before .before .before .before .float .ensures, c .before .before .before .before .before .before .scale .ensures, toZ-ofZ h, toZ-ofZ k)
+    let float = c .before .before .before .before .float in
+    let scale = c .before .before .before .before .before .before .scale in
+    let entry = c .before .before .before .before .before .before .before in
+    let h : SFits w64 (entry .args .n .real) = search needs in
+    let k : SFits w64 (entry .args .n .imaginary) = search needs in
+    rw (c .narrow2 .ensures, c .before .before .before .narrow .ensures, c .before .float2 .ensures, float .ensures, scale .ensures, toZ-ofZ h, toZ-ofZ k)
 
 pub scaled-spec : {M : Type 1} → statement M
 scaled-spec =

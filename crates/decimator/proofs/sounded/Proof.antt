@@ -1,4 +1,4 @@
--- `decimator::sounded` meets its contract. Assumes nothing.
+-- `sounded` meets its contract: what `released` leaves, as an `Advance`. Assumes nothing.
 use borrow.Author.Needs.{needs}
 use Rattle.decimator.proofs.sounded.Statement.{statement}
 use Rattle.decimator.proofs.sounded.Tie as tie

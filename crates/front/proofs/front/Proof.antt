@@ -1,10 +1,10 @@
--- `front::front` meets its contract. Assumes nothing.
+-- `front` meets its contract: at each turn what is left to fill is what was to be filled, and it ends with the samples or with the row. Assumes nothing.
 use Prim.Native.Nat.{_+_, _-_, _/_}
 use native.Mathlib.Omega.{arith}
 use mathlib.Core.Path.{_≡_, refl, _∙_}
 use lib.ListN.{length}
 use Rattle.front.specs.Front.{filledOf, frontNow}
-use Rattle.front.specs.Ready.{Going}
+use Rattle.front.specs.Admitted.{Going}
 use Rattle.front.specs.Draws.{filled-end, filled-full, kept-start, kept-on, advance-asks, kept-end, kept-full}
 use Rattle.front.proofs.front.Statement.{statement}
 use Rattle.front.proofs.front.Tie as tie
@@ -22,20 +22,29 @@ loop-holds : tie.Need-loop-holds Inv-loop μ-loop
 loop-holds c = (kept-start _ _ (c .before .before .pre .0), refl)
 
 add-if1 : tie.Need-add-if1 Inv-loop μ-loop
-add-if1 c = omega (arith, c .before .loop .inv .0 .most, c .before .before .before .before .pre)
+add-if1 c =
+    let entry = c .before .before .before .before in
+    omega (arith, c .before .loop .inv .0 .most, entry .pre)
 
 advance-requires : tie.Need-advance-requires Inv-loop μ-loop
-advance-requires c κs = let z = c .before .before .before .before .before .before .before .before .before .before in advance-asks _ _ _ _ _ _ _ (c .before .before .before .before .before .before .before .loop .inv .0) (z .pre .1 .0) refl refl (c .before .before .before .before .before .if1 .taken) (z .pre .1 .1 .1 .0) (z .pre .1 .1 .0) (c .before .before .before .before .if2 .left)
+advance-requires c κs =
+    let entry = c .before .before .before .before .before .before .before .before .before .before in
+    let going = c .before .before .before .before .before .before .before .loop .inv .0 in
+    let samples-left = c .before .before .before .before .before .if1 .taken in
+    let room-left = c .before .before .before .before .if2 .left in
+    advance-asks _ _ _ _ _ _ _ going (entry .pre .1 .0) refl refl samples-left (entry .pre .1 .1 .1 .0) (entry .pre .1 .1 .0) room-left
 
 loop-less : tie.Need-loop-less Inv-loop μ-loop
-loop-less c = omega (arith, c .advance .ensures .1 .1 .further, c .before .before .before .before .before .before .if1 .taken)
+loop-less c =
+    let samples-left = c .before .before .before .before .before .before .if1 .taken in
+    omega (arith, c .advance .ensures .1 .1 .further, samples-left)
 
 loop-again : tie.Need-loop-again Inv-loop μ-loop
 loop-again c =
-    let z = c .before .before .before .before .before .before .before .before in
-    let l = c .before .before .before .before .before .before .if1 .taken in
-    let m = c .before .before .before .before .before .if2 .left in
-    (kept-on _ _ _ _ _ _ refl l m (z .loop .inv .0) (c .advance .ensures .1 .1), c .advance .ensures .1 .0 ∙ z .loop .inv .1)
+    let inv = c .before .before .before .before .before .before .before .before .loop .inv in
+    let samples-left = c .before .before .before .before .before .before .if1 .taken in
+    let room-left = c .before .before .before .before .before .if2 .left in
+    (kept-on _ _ _ _ _ _ refl samples-left room-left (inv .0) (c .advance .ensures .1 .1), c .advance .ensures .1 .0 ∙ inv .1)
 
 returns : tie.Need-returns Inv-loop μ-loop
 returns c = (filled-end _ _ _ _ (c .if1 .left) ∙ c .before .before .loop .inv .1, kept-end _ _ _ (c .before .before .loop .inv .0) (omega (arith, c .if1 .left)))

@@ -1,4 +1,4 @@
--- `front::gather` meets its contract. Assumes nothing.
+-- `gather` meets its contract: each turn is a sample into the integrators, and the counter of turns stays below 4,096. Assumes nothing.
 use borrow.Author.Needs.{needs}
 use Prim.Native.Nat.{_-_, _<_, _≤_}
 use native.Mathlib.Omega.{arith}
@@ -46,7 +46,9 @@ shared-slice-read-t20 : tie.Need-shared-slice-read-t20 Inv-loop μ-loop
 shared-slice-read-t20 c = search needs
 
 gathered-requires : tie.Need-gathered-requires Inv-loop μ-loop
-gathered-requires c κs = (number-at _ (c .before .before .before .before .before .pre .0) _ (omega (arith, c .before .before .loop-test, c .before .before .before .before .before .pre)), search needs)
+gathered-requires c κs =
+    let entry = c .before .before .before .before .before in
+    (number-at _ (entry .pre .0) _ (omega (arith, c .before .before .loop-test, entry .pre)), search needs)
 
 add-i : tie.Need-add-i Inv-loop μ-loop
 add-i c = search needs
@@ -55,7 +57,9 @@ loop-less : tie.Need-loop-less Inv-loop μ-loop
 loop-less c = search needs
 
 loop-again : tie.Need-loop-again Inv-loop μ-loop
-loop-again c = (search needs, search needs, c .gathered .ensures .0 ∙ turns-step _ _ _ _ (c .before .before .before .before .loop .inv .2))
+loop-again c =
+    let inv = c .before .before .before .before .loop .inv in
+    (search needs, search needs, c .gathered .ensures .0 ∙ turns-step _ _ _ _ (inv .2))
 
 returns : tie.Need-returns Inv-loop μ-loop
 unfolding gatherOf

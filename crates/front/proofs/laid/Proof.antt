@@ -1,4 +1,4 @@
--- `front::laid` meets its contract. Assumes nothing.
+-- `laid` meets its contract: none, one or two values stand in the row from its next place on. Assumes nothing.
 use borrow.Author.Needs.{needs}
 use Rattle.front.specs.Laws.{laid-none, laid-one, laid-two}
 use Rattle.front.proofs.laid.Statement.{statement}
@@ -23,7 +23,9 @@ add-result : tie.Need-add-result
 add-result c = search needs
 
 returns-2 : tie.Need-returns-2
-returns-2 c = laid-one (c .before .before .before .before .args .p) _ (c .if2 .taken)
+returns-2 c =
+    let entry = c .before .before .before .before in
+    laid-one (entry .args .p) _ (c .if2 .taken)
 
 add-row-real : tie.Need-add-row-real
 add-row-real c = search needs
@@ -47,7 +49,9 @@ add-result-2 : tie.Need-add-result-2
 add-result-2 c = search needs
 
 returns-3 : tie.Need-returns-3
-returns-3 c = laid-two (c .before .before .before .before .args .p) _ (search needs)
+returns-3 c =
+    let entry = c .before .before .before .before in
+    laid-two (entry .args .p) _ (search needs)
 
 pub laid-spec : {M : Type 1} → statement M
 laid-spec =

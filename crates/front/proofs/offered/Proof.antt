@@ -1,4 +1,4 @@
--- `front::offered` meets its contract. Assumes nothing.
+-- `offered` meets its contract: nothing is stored where nothing came; else the value goes into the ring and what it makes due into the row. Assumes nothing.
 use borrow.Author.Needs.{needs}
 use mathlib.Core.Path.{refl}
 use Rattle.front.specs.Laws.{offered-none, offered-some, offer-none, offer-some}
@@ -21,7 +21,11 @@ returns : tie.Need-returns
 returns c = (offered-none _ _ _ (c .enum-told .given .1), offer-none _ _ (c .before .before .before .pre .0))
 
 returns-2 : tie.Need-returns-2
-returns-2 c = (offered-some _ _ _ _ _ _ (c .before .before .before .before .before .before .before .before .output .given .1) (c .before .before .before .before .resampled .ensures .0) (c .before .laid .ensures), offer-some _ _ _ _ _ (c .before .before .before .before .resampled .ensures .1) refl (c .before .laid .ensures))
+returns-2 c =
+    let value = c .before .before .before .before .before .before .before .before .output in
+    let resampled = c .before .before .before .before .resampled in
+    let laid = c .before .laid in
+    (offered-some _ _ _ _ _ _ (value .given .1) (resampled .ensures .0) (laid .ensures), offer-some _ _ _ _ _ (resampled .ensures .1) refl (laid .ensures))
 
 pub offered-spec : {M : Type 1} → statement M
 offered-spec =

@@ -1,4 +1,4 @@
--- `front::several` meets its contract. Assumes nothing.
+-- `several` meets its contract: a run that ends before the d-th sample waits, and one that ends at it gives the value of the combs. Assumes nothing.
 use borrow.Author.Needs.{needs}
 use Rattle.front.specs.Runs.{waits-is, whole-is}
 use Rattle.front.proofs.several.Statement.{statement}
@@ -20,13 +20,21 @@ add-t22 : tie.Need-add-t22
 add-t22 c = search needs
 
 returns : tie.Need-returns
-returns c = waits-is _ _ _ _ (c .before .before .before .before .before .before .before .before .before .before .before .before .pre .0) (c .before .before .before .before .before .before .before .before .before .before .before .before .pre .1 .0) _ _ _ (c .before .before .before .before .before .before .least .ensures) (c .before .before .before .before .before .gather .ensures) (c .before .before .if1 .taken)
+returns c =
+    let entry = c .before .before .before .before .before .before .before .before .before .before .before .before in
+    let least = c .before .before .before .before .before .before .least in
+    let gather = c .before .before .before .before .before .gather in
+    waits-is _ _ _ _ (entry .pre .0) (entry .pre .1 .0) _ _ _ (least .ensures) (gather .ensures) (c .before .before .if1 .taken)
 
 decimate-requires : tie.Need-decimate-requires
 decimate-requires c κs = search needs
 
 returns-2 : tie.Need-returns-2
-returns-2 c = whole-is _ _ _ _ (c .before .before .before .before .before .before .before .before .before .before .before .before .before .pre .0) (c .before .before .before .before .before .before .before .before .before .before .before .before .before .pre .1 .0) _ _ _ (c .before .before .before .before .before .before .before .least .ensures) (c .before .before .before .before .before .before .gather .ensures) _ (c .before .before .before .if1 .left) (c .before .before .decimate .ensures)
+returns-2 c =
+    let entry = c .before .before .before .before .before .before .before .before .before .before .before .before .before in
+    let least = c .before .before .before .before .before .before .before .least in
+    let gather = c .before .before .before .before .before .before .gather in
+    whole-is _ _ _ _ (entry .pre .0) (entry .pre .1 .0) _ _ _ (least .ensures) (gather .ensures) _ (c .before .before .before .if1 .left) (c .before .before .decimate .ensures)
 
 pub several-spec : {M : Type 1} → statement M
 several-spec =

@@ -1,4 +1,4 @@
--- `front::single` meets its contract. Assumes nothing.
+-- `single` meets its contract: at d = 1 a run is one sample, and what it is mixed to is its output. Assumes nothing.
 use native.Mathlib.Omega.{arith}
 use mathlib.Core.Path.{ap}
 use Rattle.oscillator.specs.declared.Step.{Step}
@@ -29,11 +29,14 @@ shared-slice-read-t19 : tie.Need-shared-slice-read-t19
 shared-slice-read-t19 c = search needs
 
 stepped-requires : tie.Need-stepped-requires
-stepped-requires c κs = (number-at _ (c .before .before .before .before .before .pre .1 .1 .0) _ (c .before .before .before .before .before .pre .1 .1 .1), search needs)
+stepped-requires c κs =
+    let entry = c .before .before .before .before .before in
+    (number-at _ (entry .pre .1 .1 .0) _ (entry .pre .1 .1 .1), search needs)
 
 returns : tie.Need-returns
 returns c =
-    single-is _ _ _ _ (c .before .before .before .before .before .before .before .before .pre .0) _ _ _ (c .before .before .before .before .before .before .before .before .pre .1 .0) (omega (arith, c .before .before .before .before .before .before .before .before .pre))
+    let entry = c .before .before .before .before .before .before .before .before in
+    single-is _ _ _ _ (entry .pre .0) _ _ _ (entry .pre .1 .0) (omega (arith, entry .pre))
     (ap (λ (t : Step). t .value) (c .before .before .stepped .ensures)) (ap (λ (t : Step). t .oscillator) (c .before .before .stepped .ensures))
 
 pub single-spec : {M : Type 1} → statement M

@@ -1,4 +1,4 @@
--- `oscillator::fresh` meets its contract. Assumes nothing.
+-- `fresh` meets its contract: cosine and sine of the angle are the step. Assumes nothing.
 use lib.Ieee.{ofBits, neg}
 use Rattle.oscillator.specs.Laws.{fresh-is}
 use borrow.Author.Needs.{needs}

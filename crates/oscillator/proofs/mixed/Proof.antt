@@ -1,4 +1,4 @@
--- `oscillator::mixed` meets its contract. Assumes nothing.
+-- `mixed` meets its contract: the product, each part narrowed once. Assumes nothing.
 use mathlib.Core.Path.{ap, _∙_}
 use Rattle.complex.specs.Complex.{narrowedOf}
 use borrow.Author.Needs.{needs}

@@ -1,4 +1,4 @@
--- `oscillator::renormalized` meets its contract. Assumes nothing.
+-- `renormalized` meets its contract: both parts over the square root that `sqrt` gives. Assumes nothing.
 use borrow.Author.Needs.{needs}
 use Rattle.oscillator.proofs.renormalized.Statement.{statement}
 use Rattle.oscillator.proofs.renormalized.Tie as tie

@@ -1,4 +1,4 @@
--- `oscillator::turned` meets its contract. Assumes nothing.
+-- `turned` meets its contract: at the 4,096th turn what `renormalized` makes, and before it the product with the step. Assumes nothing.
 use Rattle.oscillator.specs.Laws.{turned-last, turned-other}
 use borrow.Author.Needs.{needs}
 use Rattle.oscillator.proofs.turned.Statement.{statement}

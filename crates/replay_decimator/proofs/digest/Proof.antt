@@ -1,4 +1,4 @@
--- `replay_decimator::digest` ends: fewer samples are left at each turn, and the counter stays below d. Assumes nothing.
+-- `digest` ends: fewer samples are left at each turn, and the counter stays below d. Assumes nothing.
 use Prim.Native.Nat.{_<_}
 use borrow.Author.Needs.{needs}
 use Rattle.replay_decimator.proofs.digest.Statement.{statement}
@@ -43,8 +43,8 @@ loop-less c = search needs
 loop-again : tie.Need-loop-again Inv-loop μ-loop
 loop-again c = search needs
 
-mixed-state-requires : tie.Need-mixed-state-requires Inv-loop μ-loop
-mixed-state-requires c κs = search needs
+mixed-decimator-requires : tie.Need-mixed-decimator-requires Inv-loop μ-loop
+mixed-decimator-requires c κs = search needs
 
 returns : tie.Need-returns Inv-loop μ-loop
 returns c = search needs
@@ -66,5 +66,5 @@ digest-spec =
     sub-left
     loop-less
     loop-again
-    mixed-state-requires
+    mixed-decimator-requires
     returns)

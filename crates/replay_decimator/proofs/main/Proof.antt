@@ -1,4 +1,4 @@
--- `replay_decimator::main` ends: fewer runs are left at each turn. Assumes nothing.
+-- `main` ends: fewer runs are left at each turn. Assumes nothing.
 use Prim.Native.Nat.{_≤_}
 use borrow.Author.Needs.{needs}
 use Rattle.replay_decimator.proofs.main.Statement.{statement}

@@ -1,5 +1,7 @@
--- `replay_front::answer` is safe: the front is ready. Assumes nothing.
+-- `answer` is safe: samples go into an admitted front alone. Assumes nothing.
 use borrow.Author.Needs.{needs}
+use mathlib.Core.Path.{sym, _∙_}
+use Rattle.front.specs.AdmittedLaws.{admitted-facts}
 use Rattle.replay_front.proofs.answer.Statement.{statement}
 use Rattle.replay_front.proofs.answer.Tie as tie
 
@@ -15,11 +17,13 @@ write-table-requires c κs = search needs
 started-requires : tie.Need-started-requires
 started-requires c κs = search needs
 
-is-ready-requires : tie.Need-is-ready-requires
-is-ready-requires c κs = search needs
+is-admitted-requires : tie.Need-is-admitted-requires
+is-admitted-requires c κs = search needs
 
 run-requires : tie.Need-run-requires
-run-requires c κs = c .before .before .before .before .is-ready .ensures (c .before .before .before .if3 .taken)
+run-requires c κs =
+    let tested = c .before .before .before .before .is-admitted in
+    admitted-facts _ (sym (tested .ensures) ∙ c .before .before .before .if3 .taken)
 
 mixed-ring-requires : tie.Need-mixed-ring-requires
 mixed-ring-requires c κs = search needs
@@ -44,7 +48,7 @@ answer-spec =
     slice-aggregate-write-table
     write-table-requires
     started-requires
-    is-ready-requires
+    is-admitted-requires
     run-requires
     mixed-ring-requires
     print-line-requires

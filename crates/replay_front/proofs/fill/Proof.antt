@@ -1,4 +1,4 @@
--- `replay_front::fill` is safe and ends, and fills the block with numbers. Assumes nothing.
+-- `fill` is safe and ends, and fills the block with numbers. Assumes nothing.
 use mathlib.Core.Path.{_≡_}
 use Prim.Native.Nat.{_-_, _≤_}
 use lib.ListN.{length, length-set}
@@ -38,7 +38,9 @@ loop-less : tie.Need-loop-less Inv-loop μ-loop
 loop-less c = search needs
 
 loop-again : tie.Need-loop-again Inv-loop μ-loop
-loop-again c = (search needs, simp length-set (search needs), sound-more _ _ _ (search needs) (c .number .ensures) (c .before .before .before .before .loop .inv .2))
+loop-again c =
+    let inv = c .before .before .before .before .loop .inv in
+    (search needs, simp length-set (search needs), sound-more _ _ _ (search needs) (c .number .ensures) (inv .2))
 
 returns : tie.Need-returns Inv-loop μ-loop
 returns c = (sound-all _ _ (record { each = λ k h. c .before .loop .inv .2 .each k (search (needs, h)) }) (c .before .loop .inv .1), c .before .loop .inv .1)

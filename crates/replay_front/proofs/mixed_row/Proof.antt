@@ -1,4 +1,4 @@
--- `replay_front::mixed_row` is safe and ends: as many turns as the row has values. Assumes nothing.
+-- `mixed_row` is safe and ends: as many turns as the row has values. Assumes nothing.
 use Prim.Native.Nat.{_-_, _≤_}
 use borrow.Author.Needs.{needs}
 use Rattle.replay_front.proofs.mixed_row.Statement.{statement}

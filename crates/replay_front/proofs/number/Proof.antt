@@ -1,4 +1,4 @@
--- `replay_front::number` gives no NaN. Assumes nothing.
+-- `number` gives no NaN. Assumes nothing.
 use mathlib.Core.Path.{sym, _∙_, subst}
 use mathlib.Core.Bool.{Bool, not}
 use lib.Dec.{T}

@@ -1,4 +1,4 @@
--- `replay_oscillator::main` ends: fewer records are left at each turn. Assumes nothing.
+-- `main` ends: fewer records are left at each turn. Assumes nothing.
 use Prim.Native.Nat.{_<_}
 use native.Mathlib.Omega.{arith}
 use mathlib.Core.Path.{_≡_, sym, subst}

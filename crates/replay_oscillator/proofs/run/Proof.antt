@@ -1,4 +1,4 @@
--- `replay_oscillator::run` is safe and ends: fewer steps are left at each turn. Assumes nothing.
+-- `run` is safe and ends: fewer steps are left at each turn. Assumes nothing.
 use Prim.Native.Nat.{_<_}
 use borrow.Author.Needs.{needs}
 use Rattle.replay_oscillator.proofs.run.Statement.{statement}

@@ -1,4 +1,4 @@
--- `replay_oscillator::sampled` is safe, since what is mixed is no NaN, and keeps the counter below 4,096. Assumes nothing.
+-- `sampled` is safe, since what is mixed is no NaN, and keeps the counter below 4,096. Assumes nothing.
 use mathlib.Core.Path.{sym, ap, _∙_}
 use Rattle.oscillator.specs.declared.Step.{Step}
 use Rattle.oscillator.specs.Laws.{number, still-below}
@@ -31,7 +31,10 @@ mixed-oscillator-requires : tie.Need-mixed-oscillator-requires
 mixed-oscillator-requires c κs = search needs
 
 returns-3 : tie.Need-returns-3
-returns-3 c = still-below _ _ (c .before .before .before .before .before .before .before .before .before .before .pre) (ap (λ (t : Step). t .oscillator) (c .before .before .before .before .before .stepped .ensures))
+returns-3 c =
+    let entry = c .before .before .before .before .before .before .before .before .before .before in
+    let stepped = c .before .before .before .before .before .stepped in
+    still-below _ _ (entry .pre) (ap (λ (t : Step). t .oscillator) (stepped .ensures))
 
 pub sampled-spec : {M : Type 1} → statement M
 sampled-spec =

@@ -1,4 +1,4 @@
--- `replay_oscillator::started` keeps the counter below 4,096. Assumes nothing.
+-- `started` keeps the counter below 4,096. Assumes nothing.
 use Prim.Native.Nat.{_<_}
 use native.Mathlib.Omega.{arith}
 use mathlib.Core.Path.{sym, subst}

@@ -1,7 +1,7 @@
--- `replay_resampler::answer` is safe and ends. Assumes nothing.
+-- `answer` is safe: a rate in range gives dimensions in range, and values go into an admitted resampler alone. Assumes nothing.
 use borrow.Author.Needs.{needs}
 use borrow.Table.Elements.{length-take-le}
-use Rattle.resampler.specs.Ready.{admitted-ready}
+use Rattle.resampler.specs.AdmittedLaws.{admitted-facts}
 use Rattle.decimator.specs.Decimator.{freshOf}
 use Rattle.decimator.specs.declared.Decimator.{Decimator}
 use Prim.Native.Nat.{_<_}
@@ -49,10 +49,13 @@ fresh-requires : tie.Need-fresh-requires
 fresh-requires c κs = search needs
 
 run-requires : tie.Need-run-requires
-run-requires c κs = (
-  admitted-ready _ (sym (c .before .before .before .before .before .is-admitted .ensures) ∙ c .before .before .before .before .if4 .taken),
-  subst (λ (d : Decimator). d .counter < d .decimation) (sym (c .before .before .before .fresh .ensures)) (unfold freshOf in c .before .before .before .before .before .before .before .before .before .before .before .before .before .before .before .sized .ensures .1 .decimation-low),
-)
+run-requires c κs =
+    let is-admitted = c .before .before .before .before .before .is-admitted in
+    let test = c .before .before .before .before .if4 in
+    let sized = c .before .before .before .before .before .before .before .before .before .before .before .before .before .before .before .sized in (
+      admitted-facts _ (sym (is-admitted .ensures) ∙ test .taken),
+      subst (λ (d : Decimator). d .counter < d .decimation) (sym (c .before .before .before .fresh .ensures)) (unfold freshOf in sized .ensures .1 .decimation-low),
+    )
 
 print-line-requires : tie.Need-print-line-requires
 print-line-requires c κs = search needs

@@ -1,4 +1,4 @@
--- `replay_resampler::fill` is safe and ends. Assumes nothing.
+-- `fill` is safe and ends: as many turns as a plane has places. Assumes nothing.
 use borrow.Author.Needs.{needs}
 use Prim.Native.Nat.{_-_, _≤_}
 use Rattle.replay_resampler.proofs.fill.Statement.{statement}

@@ -2,7 +2,7 @@
 use lib.Ieee.{ofBits, le}
 use mathlib.Core.Path.{refl}
 use Rattle.resampler.specs.Dimensions.{freshOf}
-use Rattle.resampler.specs.Ranges.{fresh-ready}
+use Rattle.resampler.specs.Ranges.{fresh-admitted}
 use borrow.Author.Needs.{needs}
 use Rattle.cases.proofs.outputs.first_samples.Statement.{statement}
 use Rattle.cases.proofs.outputs.first_samples.Tie as tie
@@ -28,7 +28,7 @@ fresh-requires c κs = search needs
 
 pass-requires : tie.Need-pass-requires
 unfolding freshOf
-pass-requires c κs = rw (c .before .fresh .ensures) (fresh-ready _ (c .before .before .before .before .before .before .before .sized .ensures .1), refl)
+pass-requires c κs = rw (c .before .fresh .ensures) (fresh-admitted _ (c .before .before .before .before .before .before .before .sized .ensures .1), refl)
 
 slice-aggregate-text-2 : tie.Need-slice-aggregate-text-2
 slice-aggregate-text-2 c = search needs

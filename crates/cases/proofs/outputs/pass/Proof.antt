@@ -1,13 +1,13 @@
 -- `cases::outputs::pass` is safe and ends: each sample leaves a resampler that may be run. Assumes nothing.
 use Prim.Native.Nat.{_+_, _≤_}
 use native.Mathlib.Omega.{arith}
-use Rattle.resampler.specs.Ready.{Ready}
+use Rattle.resampler.specs.Admitted.{Admitted}
 use borrow.Author.Needs.{needs}
 use Rattle.cases.proofs.outputs.pass.Statement.{statement}
 use Rattle.cases.proofs.outputs.pass.Tie as tie
 
 abbrev Inv-loop : tie.InvT-loop
-Inv-loop table real₀ imaginary₀ r₀ seed₀ left₀ real imaginary r seed left = (r .index + left ≤ 14) × Ready r
+Inv-loop table real₀ imaginary₀ r₀ seed₀ left₀ real imaginary r seed left = (r .index + left ≤ 14) × Admitted r
 
 abbrev μ-loop : tie.MeasureT-loop
 μ-loop table real₀ imaginary₀ r₀ seed₀ left₀ real imaginary r seed left = left
@@ -34,7 +34,7 @@ loop-less : tie.Need-loop-less Inv-loop μ-loop
 loop-less c = omega (arith, c .before .before .before .before .before .before .before .before .loop-test)
 
 loop-again : tie.Need-loop-again Inv-loop μ-loop
-loop-again c = (omega (arith, c .before .before .resampled .ensures .1 .one-more, c .before .before .before .before .before .before .before .before .loop-test, c .before .before .before .before .before .before .before .before .before .loop .inv .0), c .before .before .resampled .ensures .1 .ready)
+loop-again c = (omega (arith, c .before .before .resampled .ensures .1 .one-more, c .before .before .before .before .before .before .before .before .loop-test, c .before .before .before .before .before .before .before .before .before .loop .inv .0), c .before .before .resampled .ensures .1 .admitted)
 
 returns : tie.Need-returns Inv-loop μ-loop
 returns c = search needs

@@ -1,4 +1,4 @@
--- `decimator::quantiser::is_within` meets its contract. Assumes nothing.
+-- `is_within` meets its contract: both tests at once. Assumes nothing.
 use mathlib.Core.Path.{refl}
 use lib.Ieee.{ofBits, neg}
 use Rattle.decimator.specs.Quantiser.{within}

@@ -1,4 +1,4 @@
--- `decimator::quantiser::quantised` meets its contract. Assumes nothing.
+-- `quantised` meets its contract: within 512 what `rounded` gives, and else what `saturated` gives. Assumes nothing.
 use borrow.Author.Needs.{needs}
 use mathlib.Core.Path.{sym, _∙_}
 use Rattle.decimator.proofs.quantiser.quantised.Statement.{statement}

@@ -1,4 +1,4 @@
--- `decimator::quantiser::rounded` meets its contract. Assumes nothing.
+-- `rounded` meets its contract: the product is exact, and adding and taking off 3 * 2^51 brings it to the nearest whole number. Assumes nothing.
 use Rattle.decimator.specs.Quantiser.{quantises-within}
 use mathlib.Core.Path.{_∙_}
 use mir.Facts.{toZ-ofZ}

@@ -1,4 +1,4 @@
--- `decimator::quantiser::saturated` meets its contract. Assumes nothing.
+-- `saturated` meets its contract: the product is whole, and `to_i64` saturates it. Assumes nothing.
 use borrow.Author.Needs.{needs}
 use lib.Ieee.{Float, binary64, ofBits, toSigned, mul}
 use mathlib.Core.Path.{ap, _∙_}

@@ -1,4 +1,4 @@
--- `resampler::design::divide` meets its contract. Assumes nothing.
+-- `divide` meets its contract: each of the first places is divided by the sum and multiplied by 32, once. Assumes nothing.
 use borrow.Author.Needs.{needs}
 use Rattle.resampler.specs.Taps.{divideTurn, dividedOf}
 use Rattle.laws.specs.Turns.{turns, turns-start, turns-step, turns-end}

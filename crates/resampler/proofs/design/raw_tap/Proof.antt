@@ -1,6 +1,6 @@
--- `resampler::design::raw_tap` meets its contract. Assumes nothing.
+-- `raw_tap` meets its contract: the wave under the window, in f64, narrowed once. Assumes nothing.
 use borrow.Author.Needs.{needs}
-use Rattle.resampler.specs.Design.{rawTap}
+use Rattle.resampler.specs.Design.{rawTapOf}
 use Rattle.resampler.proofs.design.raw_tap.Statement.{statement}
 use Rattle.resampler.proofs.design.raw_tap.Tie as tie
 
@@ -20,8 +20,10 @@ narrow-requires : tie.Need-narrow-requires
 narrow-requires c κs = search needs
 
 returns : tie.Need-returns
-unfolding rawTap
-returns c = rw (c .narrow .ensures, c .before .wave .ensures, c .before .before .cosine .ensures, c .before .before .before .nearest-u64-to-f642 .ensures, c .before .before .before .before .nearest-u64-to-f64 .ensures)
+unfolding rawTapOf
+returns c =
+    let nearest-u64-to-f64 = c .before .before .before .before .nearest-u64-to-f64 in
+    rw (c .narrow .ensures, c .before .wave .ensures, c .before .before .cosine .ensures, c .before .before .before .nearest-u64-to-f642 .ensures, nearest-u64-to-f64 .ensures)
 
 pub raw-tap-spec : {M : Type 1} → statement M
 raw-tap-spec =

@@ -1,4 +1,4 @@
--- `resampler::design::tap_place` meets its contract. Assumes nothing.
+-- `tap_place` meets its contract: a tap of the first 32 c stands within them. Assumes nothing.
 use borrow.Author.Needs.{needs}
 use Rattle.resampler.specs.Taps.{place-in}
 use Rattle.resampler.specs.Window.{base-small}

@@ -1,4 +1,4 @@
--- `resampler::design::wave` meets its contract. Assumes nothing.
+-- `wave` meets its contract: the limit in the middle, and else the sine over the distance. Assumes nothing.
 use borrow.Author.Needs.{needs}
 use Rattle.resampler.specs.Design.{waveOf}
 use Rattle.resampler.proofs.design.wave.Statement.{statement}

@@ -1,4 +1,4 @@
--- `resampler::design::write_raw` meets its contract. Assumes nothing.
+-- `write_raw` meets its contract: each turn writes a tap at its place and adds it, and the last tap is added alone. Assumes nothing.
 use borrow.Author.Needs.{needs}
 use lib.ListN.{length-set}
 use Rattle.resampler.specs.Taps.{both-next}
@@ -46,12 +46,12 @@ loop-less c = search needs
 
 loop-again : tie.Need-loop-again Inv-loop μ-loop
 loop-again c =
-    let z = c .before .before .before .before .before .before in
+    let entry = c .before .before .before .before .before .before in
     let l = c .before .before .before .before .loop in
     let t = c .before .before .raw-tap in (
       search needs,
       simp length-set (search needs),
-      both-next (z .args .omega) (z .args .arm) (l .i) (c .before .tap-place .result) (now (z .args .table)) (record { sum = l .sum; table = l .table }) (t .result) (c .widen .result)
+      both-next (entry .args .omega) (entry .args .arm) (l .i) (c .before .tap-place .result) (now (entry .args .table)) (record { sum = l .sum; table = l .table }) (t .result) (c .widen .result)
           (l .inv .2) (t .ensures) (c .widen .ensures) (c .before .tap-place .ensures .0),
     )
 
@@ -66,9 +66,9 @@ same-length c = search needs
 
 returns : tie.Need-returns Inv-loop μ-loop
 returns c =
-    let z = c .before .before .before .before .before in
+    let entry = c .before .before .before .before .before in
     let l = c .before .before .before .loop in
-    raw-from (z .args .omega) (z .args .arm) (now (z .args .table)) (record { sum = l .sum; table = l .table }) (l .i) (c .widen2 .result) (l .inv .2) (search needs) (search needs) (c .widen2 .ensures ∙ c .before .raw-tap2 .ensures)
+    raw-from (entry .args .omega) (entry .args .arm) (now (entry .args .table)) (record { sum = l .sum; table = l .table }) (l .i) (c .widen2 .result) (l .inv .2) (search needs) (search needs) (c .widen2 .ensures ∙ c .before .raw-tap2 .ensures)
 
 pub write-raw-spec : {M : Type 1} → statement M
 write-raw-spec =

@@ -1,4 +1,4 @@
--- `resampler::design::write_table` meets its contract. Assumes nothing.
+-- `write_table` meets its contract: the raw taps, divided by their sum, are the table of the rate. Assumes nothing.
 use borrow.Author.Needs.{needs}
 use Rattle.resampler.specs.Taps.{table-written}
 use Rattle.resampler.specs.Design.{omegaOf}
@@ -25,8 +25,10 @@ same-length c = search needs
 returns : tie.Need-returns
 unfolding omegaOf
 returns c =
-    let z = c .before .before .before .before .before .before .before .before .before .before in
-    table-written (z .args .arm) (z .pre .0) (z .args .rate) (omegaOf (z .args .rate)) (now (z .args .table)) _ (c .before .before .before .before .before .before .before .write-raw .result) (c .before .before .before .before .narrow .result) _ (z .pre .1 .1) refl (c .before .before .before .before .before .before .before .write-raw .ensures) (c .before .before .before .before .narrow .ensures) (c .before .before .divide .ensures)
+    let write-raw = c .before .before .before .before .before .before .before .write-raw in
+    let narrow = c .before .before .before .before .narrow in
+    let entry = c .before .before .before .before .before .before .before .before .before .before in
+    table-written (entry .args .arm) (entry .pre .0) (entry .args .rate) (omegaOf (entry .args .rate)) (now (entry .args .table)) _ (write-raw .result) (narrow .result) _ (entry .pre .1 .1) refl (write-raw .ensures) (narrow .ensures) (c .before .before .divide .ensures)
 
 pub write-table-spec : {M : Type 1} → statement M
 write-table-spec =

@@ -1,4 +1,4 @@
--- `resampler::dimensions::fresh` meets its contract. Assumes nothing.
+-- `fresh` meets its contract: half an arm as an f64 is where the first output lies. Assumes nothing.
 use borrow.Author.Needs.{needs}
 use Rattle.resampler.specs.Dimensions.{freshOf}
 use Rattle.resampler.proofs.dimensions.fresh.Statement.{statement}

@@ -1,4 +1,4 @@
--- `resampler::dimensions::nearest` meets its contract. Assumes nothing.
+-- `nearest` meets its contract: from 0 to 1,024 the rounded number is a whole one that the cast keeps. Assumes nothing.
 use borrow.Author.Needs.{needs}
 use Rattle.resampler.specs.Ranges.{whole-asks}
 use Rattle.resampler.proofs.dimensions.nearest.Statement.{statement}

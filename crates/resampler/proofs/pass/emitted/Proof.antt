@@ -1,4 +1,4 @@
--- `resampler::pass::emitted` meets its contract. Assumes nothing.
+-- `emitted` meets its contract: the first output, or the second, and the position one step on. Assumes nothing.
 use borrow.Author.Needs.{needs}
 use Rattle.resampler.specs.Pass.{emittedOf}
 use borrow.Author.Tests.{eq-eqb, ne-eqb}

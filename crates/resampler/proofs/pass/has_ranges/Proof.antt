@@ -1,4 +1,4 @@
--- `resampler::pass::has_ranges` meets its contract. Assumes nothing.
+-- `has_ranges` meets its contract: above 2^52 the answer is no, and else the four comparisons. Assumes nothing.
 use borrow.Author.Needs.{needs}
 use Rattle.resampler.specs.Pass.{rangesOk}
 use borrow.Author.Tests.{lt-ltb, le-ltb}
@@ -17,7 +17,10 @@ nearest-u64-to-f64-requires c κs = search needs
 
 returns-2 : tie.Need-returns-2
 unfolding rangesOk
-returns-2 c = rw (le-ltb _ _ (c .before .before .before .before .before .before .if1 .left), c .before .before .before .before .nearest-u64-to-f64 .ensures)
+returns-2 c =
+    let test = c .before .before .before .before .before .before .if1 in
+    let nearest-u64-to-f64 = c .before .before .before .before .nearest-u64-to-f64 in
+    rw (le-ltb _ _ (test .left), nearest-u64-to-f64 .ensures)
 
 pub has-ranges-spec : {M : Type 1} → statement M
 has-ranges-spec =

@@ -1,4 +1,4 @@
--- `resampler::pass::has_sizes` meets its contract. Assumes nothing.
+-- `has_sizes` meets its contract: above 576 the answer is no, and else the three comparisons. Assumes nothing.
 use borrow.Author.Needs.{needs}
 use Rattle.resampler.specs.Pass.{sizesOk}
 use borrow.Author.Tests.{lt-ltb, le-ltb}
@@ -14,7 +14,9 @@ add-result c = search needs
 
 returns-2 : tie.Need-returns-2
 unfolding sizesOk
-returns-2 c = rw (le-ltb _ _ (c .before .before .before .before .before .if1 .left))
+returns-2 c =
+    let test = c .before .before .before .before .before .if1 in
+    rw (le-ltb _ _ (test .left))
 
 pub has-sizes-spec : {M : Type 1} → statement M
 has-sizes-spec = tie.close (tie.spec returns add-result returns-2)

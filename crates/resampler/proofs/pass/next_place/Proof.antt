@@ -1,4 +1,4 @@
--- `resampler::pass::next_place` meets its contract. Assumes nothing.
+-- `next_place` meets its contract: the place after the last is the first, which is the remainder. Assumes nothing.
 use borrow.Author.Needs.{needs}
 use native.Mathlib.Omega.{arith}
 use native.Mathlib.Nat.{mod-eq-of-lt, mod-self}

@@ -1,4 +1,4 @@
--- `resampler::pass::oldest_place` meets its contract. Assumes nothing.
+-- `oldest_place` meets its contract: the oldest of the last c values stands 16 places on, or c places back. Assumes nothing.
 use borrow.Author.Needs.{needs}
 use mathlib.Core.List.{[]}
 use Rattle.resampler.specs.Window.{oldest-low, oldest-high}

@@ -1,4 +1,4 @@
--- `resampler::pass::placed` meets its contract. Assumes nothing.
+-- `placed` meets its contract: 64 x is exact, and half its whole part, rounded up, is 32 x rounded half away. Assumes nothing.
 use borrow.Author.Needs.{needs}
 use lib.Ieee.{binary64, ofBits, fits}
 use lib.Dec.{T}

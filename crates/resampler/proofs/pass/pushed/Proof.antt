@@ -1,4 +1,4 @@
--- `resampler::pass::pushed` meets its contract. Assumes nothing.
+-- `pushed` meets its contract: the value stands at the place of the ring, which moves on. Assumes nothing.
 use borrow.Author.Needs.{needs}
 use mathlib.Core.Path.{refl}
 use Rattle.resampler.proofs.pass.pushed.Statement.{statement}

@@ -1,4 +1,4 @@
--- `resampler::pass::summed` meets its contract. Assumes nothing.
+-- `summed` meets its contract: each turn adds a product to each part, in the order of the definition. Assumes nothing.
 use mathlib.Core.Path.{_≡_}
 use borrow.Author.Needs.{needs}
 use Rattle.resampler.specs.Window.{runTurn, runOf}
@@ -51,7 +51,9 @@ loop-less : tie.Need-loop-less Inv-loop μ-loop
 loop-less c = search needs
 
 loop-again : tie.Need-loop-again Inv-loop μ-loop
-loop-again c = (search needs, turns-step _ _ _ _ (c .before .before .before .before .loop .inv .1))
+loop-again c =
+    let inv = c .before .before .before .before .loop .inv in
+    (search needs, turns-step _ _ _ _ (inv .1))
 
 returns : tie.Need-returns Inv-loop μ-loop
 unfolding runOf

@@ -1,23 +1,30 @@
--- What a front has to be for a sample to go in (document 01's clauses on oscillator, decimator and resampler), and what a call keeps. Definitions only.
+-- Which fronts may be run, as a test and as facts, which samples go in, and what a call keeps. Definitions only.
 use Prim.Native.Nat.{ℕ, _+_, _-_, _*_, _≤_, _<_}
 use mathlib.Core.Path.{_≡_}
-use mathlib.Core.Bool.{not}
+use mathlib.Core.Bool.{Bool, not, _&&_}
 use mathlib.Core.List.{List}
 use lib.Dec.{T}
 use lib.ListN.{length, getD}
 use lib.Ieee.{Float, nan, isNan}
-use Rattle.resampler.specs.Ready.{Ready as ReadyRing}
+use Rattle.oscillator.specs.Oscillator as oscillator
+use Rattle.decimator.specs.Decimator as decimator
+use Rattle.resampler.specs.Pass as resampler
+use Rattle.resampler.specs.Admitted.{Admitted as RingAdmitted}
 use Rattle.front.specs.declared.FrontPlace.{FrontPlace}
 use Rattle.front.specs.declared.Fronted.{Fronted}
 use Rattle.front.specs.declared.Drawn.{Drawn}
 use Rattle.front.specs.declared.Offering.{Offering}
 use Rattle.resampler.specs.declared.pass.Resampler.{Resampler}
 
-pub record Ready (p : FrontPlace) : Type 0 where
-  pub turns : p .oscillator .renormalize < 4096
-  pub early : p .decimator .counter < p .decimator .decimation
-  pub slow : p .decimator .decimation ≤ 78
-  pub ring : ReadyRing (p .resampler)
+-- may this front be run: each of the three may
+abbrev pub admittedOf : FrontPlace → Bool
+admittedOf p = oscillator.admittedOf (p .oscillator) && (decimator.admittedOf (p .decimator) && resampler.admittedOf (p .resampler))
+
+-- the same as facts
+pub record Admitted (p : FrontPlace) : Type 0 where
+  pub oscillator : oscillator.Admitted (p .oscillator)
+  pub decimator : decimator.Admitted (p .decimator)
+  pub resampler : RingAdmitted (p .resampler)
 
 -- no float of a block is NaN: a block with such a sample is refused
 pub record Numbers (xs : List Float) : Type 0 where
@@ -25,7 +32,7 @@ pub record Numbers (xs : List Float) : Type 0 where
 
 -- what n samples keep, up to n values into the ring
 pub record Next (n : ℕ) (p q : FrontPlace) : Type 0 where
-  pub ready : Ready q
+  pub admitted : Admitted q
   pub index-low : p .resampler .index ≤ q .resampler .index
   pub index : q .resampler .index ≤ p .resampler .index + n
   pub arm : q .resampler .arm ≡ p .resampler .arm
@@ -40,7 +47,7 @@ pub record Going (left : ℕ) (p : FrontPlace) (t : Fronted) : Type 0 where
   pub few : t .made ≤ 2 * t .used
 
 -- a whole call
-pub record Kept (left : ℕ) (p : FrontPlace) (r : Fronted) : Type 0 where
+pub record CallKeeps (left : ℕ) (p : FrontPlace) (r : Fronted) : Type 0 where
   pub next : Next (r .used) p (r .place)
   pub most : r .used ≤ left
   pub some : 0 < left → 0 < r .used
@@ -57,7 +64,7 @@ pub record Drew (left : ℕ) (p : FrontPlace) (q : Drawn) : Type 0 where
 
 -- a decimated value or none, with room for two values
 pub record Offer (r : Resampler) (made : ℕ) (l : Offering) : Type 0 where
-  pub ready : ReadyRing (l .resampler)
+  pub admitted : RingAdmitted (l .resampler)
   pub index-low : r .index ≤ l .resampler .index
   pub index : l .resampler .index ≤ r .index + 1
   pub arm : l .resampler .arm ≡ r .arm

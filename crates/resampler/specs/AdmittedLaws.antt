@@ -1,5 +1,5 @@
--- What a state has to be for a value to go in (document 01's clauses on the resampler), and what the pass makes of it: at most two outputs, no third one due, nothing pending after, and the next
--- output within 0 to 600 past the values that came in. Assumes nothing.
+-- The resampler's test passes exactly where its ranges hold. From an admitted resampler a value makes at most two outputs, no third one is due and nothing is pending after it, the next output lies
+-- within 0 to 600 past the values that came in, and the resampler is admitted again. Assumes nothing.
 use mathlib.Core.Path.{_≡_, refl, sym, ap, _∙_, subst}
 use mathlib.Core.Logic.{⊎-elim}
 use mathlib.Core.Bool.{Bool, true, false, cond, _&&_, true≢false, false≢true}
@@ -30,43 +30,10 @@ use Rattle.resampler.specs.declared.pass.Resampler.{Resampler}
 use Rattle.resampler.specs.declared.pass.Place.{Place}
 use Rattle.resampler.specs.declared.pass.Delivery.{Delivery}
 use Rattle.resampler.specs.declared.pass.Passed.{Passed}
-use Rattle.resampler.specs.Pass.{placeOf, waits, filteredOf, startOf, emittedOf, isDone, passTurn, deliveredOf, pushedOf, passedOf, Sampled, resampledOf, sizesOk, rangesOk, admittedOf}
-use Rattle.resampler.specs.Outputs.{position, f0, half, twenty, far, Sound, two-on, at-most-two, sound-next, within-600, no-minus}
+use Rattle.resampler.specs.Pass.{placedOf, waitingOf, filteredOf, startOf, emittedOf, isDone, passTurn, deliveredOf, pushedOf, passedOf, Sampled, resampledOf, sizesOk, rangesOk, admittedOf}
+use Rattle.resampler.specs.Outputs.{position, Sound, two-on, at-most-two, sound-next, within-600, no-minus}
 use Rattle.resampler.specs.Ticks.{placed-is}
-
--- the last of the values that an output needs lies this far past its position
-abbrev pub back : Resampler → ℕ
-back r = r .arm - r .half
-
-pub record Ready (r : Resampler) : Type 0 where
-  pub arm-low : 14 ≤ r .arm
-  pub arm-high : r .arm ≤ 576
-  pub half-is : r .half ≡ r .arm / 2
-  pub write-in : r .write < r .arm + 16
-  pub index-in : r .index ≤ 2 ^ 52
-  pub step-in : In half twenty (r .step)
-  pub next-in : In f0 (ofInt binary64 (pos (r .index + 600))) (r .next)
-  -- nothing is pending
-  pub idle : r .index < placeOf (r .next) .position + back r
-
--- what places and indices need of it
-pub record Dimensioned (r : Resampler) : Type 0 where
-  pub arm-some : 1 ≤ r .arm
-  pub arm-high : r .arm ≤ 576
-  pub half-in : r .half ≤ r .arm
-  pub write-in : r .write < r .arm + 16
-
--- a place that a next output can have
-pub record Near (p : Place) : Type 0 where
-  pub phase-in : p .phase < 32
-  pub position-in : p .position ≤ 2 ^ 53 + 1
-
--- what a value in keeps
-pub record Kept (r : Resampler) (p : Passed) : Type 0 where
-  pub ready : Ready (p .resampler)
-  pub few : p .count ≤ 2
-  pub one-more : p .resampler .index ≡ r .index + 1
-  pub same-arm : p .resampler .arm ≡ r .arm
+use Rattle.resampler.specs.Admitted.{f0, half, twenty, far, back, Admitted, Dimensioned, Near, PassKeeps}
 
 -- ---- x is at most the whole number n
 int-value : (n : ℕ) → n ≤ 2 ^ 53 → HasValue (ofInt binary64 (pos n)) false n 1
@@ -146,8 +113,8 @@ module _ (index : ℕ) (few : index ≤ 2 ^ 52) (x : Float) (i : In f0 (ofInt bi
   pub near-far : In f0 far x
   near-far = record { lower = i .lower; upper = whole-above x far (2 ^ 53) near-finite (refl, refl) (most-more x (index + 600) (2 ^ 53) limit near-most) }
 
-ready-sound : (r : Resampler) → Ready r → T (fits binary64 (r .next)) → Sound (r .next) (r .step)
-ready-sound r k F = record { range = near-far (r .index) (k .index-in) (r .next) (k .next-in); stored = F; step = k .step-in }
+admitted-sound : (r : Resampler) → Admitted r → T (fits binary64 (r .next)) → Sound (r .next) (r .step)
+admitted-sound r k F = record { range = near-far (r .index) (k .index-in) (r .next) (k .next-in); stored = F; step = k .step-in }
 
 -- ---- the pass, once a value is in
 
@@ -206,9 +173,9 @@ module _ (q : Resampler) (p : Passing q) where
 pub record Outcome (q : Resampler) (d : Delivery) : Type 0 where
   pub going : Going q (d .count) (d .next)
   -- no output is due any more
-  pub idle : q .index < placeOf (d .next) .position + back q
+  pub idle : q .index < placedOf (d .next) .position + back q
 
-place-position : (q : Resampler) (n : ℕ) (y : Float) → Going q n y → placeOf y .position ≡ position y
+place-position : (q : Resampler) (n : ℕ) (y : Float) → Going q n y → placedOf y .position ≡ position y
 place-position q n y g = ap (λ (z : Place). z .position) (placed-is y (g .sound .range) (g .sound .stored))
 
 pub count-emitted : (d : Delivery) (s : Float) (v : Complex32) → emittedOf d s v .count ≡ d .count + 1
@@ -231,10 +198,10 @@ module _ (q : Resampler) (p : Passing q) (table real imaginary : List Float) whe
   abbrev pub turned : Delivery → Delivery
   turned = passTurn q table real imaginary
 
-  pub going-turned : (d : Delivery) → Going q (d .count) (d .next) → placeOf (d .next) .position + back q ≤ q .index → Going q (turned d .count) (turned d .next)
+  pub going-turned : (d : Delivery) → Going q (d .count) (d .next) → placedOf (d .next) .position + back q ≤ q .index → Going q (turned d .count) (turned d .next)
   going-turned d g due =
       let e : position (d .next) + back q ≤ q .index = subst (λ (n : ℕ). n + back q ≤ q .index) (place-position q (d .count) (d .next) g) due in
-      let v = filteredOf q table real imaginary (placeOf (d .next) .phase) in
+      let v = filteredOf q table real imaginary (placedOf (d .next) .phase) in
       subst (λ (n : ℕ). Going q n (turned d .next)) (sym (count-emitted d (q .step) v))
       (subst (λ (y : Float). Going q (d .count + 1) y) (sym (next-emitted d (q .step) v)) (going-on q p (d .count) (d .next) g (due-few q p (d .count) (d .next) g e) e))
 
@@ -244,14 +211,14 @@ module _ (q : Resampler) (p : Passing q) (table real imaginary : List Float) whe
       ⊎-elim
       (λ l. record { going = g; idle = l })
       (λ l. let k = due-few q p (d .count) (d .next) g (subst (λ (n : ℕ). n + back q ≤ q .index) (place-position q (d .count) (d .next) g) l) in absurd (omega arith))
-      (lt-or-ge (q .index) (placeOf (d .next) .position + back q))
+      (lt-or-ge (q .index) (placedOf (d .next) .position + back q))
   ends (suc n) d e g =
       ⊎-elim
-      (λ l. subst (λ (b : Bool). Outcome q (cond b d (until (isDone q) turned n (turned d)))) (sym (lt-ltb (q .index) (placeOf (d .next) .position + back q) l)) (record { going = g; idle = l }))
+      (λ l. subst (λ (b : Bool). Outcome q (cond b d (until (isDone q) turned n (turned d)))) (sym (lt-ltb (q .index) (placedOf (d .next) .position + back q) l)) (record { going = g; idle = l }))
       (λ l.
-      let c = count-emitted d (q .step) (filteredOf q table real imaginary (placeOf (d .next) .phase)) in
-      subst (λ (b : Bool). Outcome q (cond b d (until (isDone q) turned n (turned d)))) (sym (le-ltb (q .index) (placeOf (d .next) .position + back q) l)) (ends n (turned d) (next-count (turned d .count) (d .count) c e) (going-turned d g l)))
-      (lt-or-ge (q .index) (placeOf (d .next) .position + back q))
+      let c = count-emitted d (q .step) (filteredOf q table real imaginary (placedOf (d .next) .phase)) in
+      subst (λ (b : Bool). Outcome q (cond b d (until (isDone q) turned n (turned d)))) (sym (le-ltb (q .index) (placedOf (d .next) .position + back q) l)) (ends n (turned d) (next-count (turned d .count) (d .count) c e) (going-turned d g l)))
+      (lt-or-ge (q .index) (placedOf (d .next) .position + back q))
     where
       next-count : (a b : ℕ) → a ≡ b + 1 → suc n + b ≡ 2 → n + a ≡ 2
       next-count a b h k = omega arith
@@ -263,17 +230,17 @@ module _ (q : Resampler) (p : Passing q) (table real imaginary : List Float) whe
   -- however long the loop is let run, no third output comes
   pub no-third : (n : ℕ) → until (isDone q) (passTurn q table real imaginary) (2 + n) (startOf (q .next)) ≡ deliveredOf q table real imaginary
   unfolding deliveredOf
-  no-third n = until-enough (isDone q) (passTurn q table real imaginary) 2 n (startOf (q .next)) (lt-ltb (q .index) (placeOf (deliveredOf q table real imaginary .next) .position + back q) (outcome .idle))
+  no-third n = until-enough (isDone q) (passTurn q table real imaginary) 2 n (startOf (q .next)) (lt-ltb (q .index) (placedOf (deliveredOf q table real imaginary .next) .position + back q) (outcome .idle))
 
--- ---- a value into a state that is ready
-module _ (r : Resampler) (k : Ready r) (F : T (fits binary64 (r .next))) (room : r .index < 2 ^ 52) where
+-- ---- a value into an admitted resampler
+module _ (r : Resampler) (k : Admitted r) (F : T (fits binary64 (r .next))) (room : r .index < 2 ^ 52) where
   half-less : r .half < r .arm
   half-less = let a = k .arm-low in let b = k .half-is in omega arith
 
-  pub ready-passing : Passing (pushedOf r)
-  ready-passing =
-      let w = ready-sound r k F in
-      let e : placeOf (r .next) .position ≡ position (r .next) = ap (λ (z : Place). z .position) (placed-is (r .next) (w .range) F) in
+  pub admitted-passing : Passing (pushedOf r)
+  admitted-passing =
+      let w = admitted-sound r k F in
+      let e : placedOf (r .next) .position ≡ position (r .next) = ap (λ (z : Place). z .position) (placed-is (r .next) (w .range) F) in
       let i = k .idle in
       record {
         far-back = let l = half-less in omega arith;
@@ -284,16 +251,16 @@ module _ (r : Resampler) (k : Ready r) (F : T (fits binary64 (r .next))) (room :
       }
 
   module _ (table real imaginary : List Float) where
-    -- THE THEOREM: at most two outputs, and a state that is ready again
+    -- THE THEOREM: at most two outputs, and a resampler that is admitted again
     pub at-most-two-outputs : deliveredOf (pushedOf r) table real imaginary .count ≤ 2
-    at-most-two-outputs = outcome (pushedOf r) ready-passing table real imaginary .going .few
+    at-most-two-outputs = outcome (pushedOf r) admitted-passing table real imaginary .going .few
 
     pub next-stored : T (fits binary64 (deliveredOf (pushedOf r) table real imaginary .next))
-    next-stored = outcome (pushedOf r) ready-passing table real imaginary .going .sound .stored
+    next-stored = outcome (pushedOf r) admitted-passing table real imaginary .going .sound .stored
 
-    pub ready-again : Ready (passedOf (pushedOf r) (deliveredOf (pushedOf r) table real imaginary) .resampler)
-    ready-again =
-        let o = outcome (pushedOf r) ready-passing table real imaginary in
+    pub admitted-again : Admitted (passedOf (pushedOf r) (deliveredOf (pushedOf r) table real imaginary) .resampler)
+    admitted-again =
+        let o = outcome (pushedOf r) admitted-passing table real imaginary in
         let y = deliveredOf (pushedOf r) table real imaginary .next in
         let g = o .going in
         record {
@@ -320,9 +287,9 @@ module _ (q : Resampler) (p : Passing q) (table real imaginary : List Float) whe
   unfolding deliveredOf
   stands-first z e = record { going = going-start q p; left = rw e }
 
-  module _ (d : Delivery) (s : Stands q table real imaginary d) (l : Place) (pe : l ≡ placeOf (d .next)) (due : waits q l ≡ false) where
-    due-place : placeOf (d .next) .position + back q ≤ q .index
-    due-place = ltb-false (q .index) (placeOf (d .next) .position + back q) (ap (waits q) (sym pe) ∙ due)
+  module _ (d : Delivery) (s : Stands q table real imaginary d) (l : Place) (pe : l ≡ placedOf (d .next)) (due : waitingOf q l ≡ false) where
+    due-place : placedOf (d .next) .position + back q ≤ q .index
+    due-place = ltb-false (q .index) (placedOf (d .next) .position + back q) (ap (waitingOf q) (sym pe) ∙ due)
 
     pub stands-few : d .count < 2
     stands-few = due-few q p (d .count) (d .next) (s .going) (subst (λ (n : ℕ). n + back q ≤ q .index) (place-position q (d .count) (d .next) (s .going)) due-place)
@@ -342,28 +309,28 @@ module _ (q : Resampler) (p : Passing q) (table real imaginary : List Float) whe
             going = subst (λ (t : Delivery). Going q (t .count) (t .next)) (sym turn-is) (going-turned q p table real imaginary d (s .going) due-place);
             left =
                 ap (λ (n : ℕ). until (isDone q) (passTurn q table real imaginary) n e) (let g : 2 - e .count ≡ 2 - d .count - 1 = omega arith in g)
-                ∙ until-next (isDone q) (passTurn q table real imaginary) (2 - d .count) d e (deliveredOf q table real imaginary) turn-is (omega arith) (ap (waits q) (sym pe) ∙ due) (s .left);
+                ∙ until-next (isDone q) (passTurn q table real imaginary) (2 - d .count) d e (deliveredOf q table real imaginary) turn-is (omega arith) (ap (waitingOf q) (sym pe) ∙ due) (s .left);
           }
 
-  pub stands-last : (d : Delivery) → Stands q table real imaginary d → (l : Place) → l ≡ placeOf (d .next) → waits q l ≡ true → d ≡ deliveredOf q table real imaginary
-  stands-last d s l pe w = sym (until-stop (isDone q) (passTurn q table real imaginary) (2 - d .count) d (ap (waits q) (sym pe) ∙ w)) ∙ s .left
+  pub stands-last : (d : Delivery) → Stands q table real imaginary d → (l : Place) → l ≡ placedOf (d .next) → waitingOf q l ≡ true → d ≡ deliveredOf q table real imaginary
+  stands-last d s l pe w = sym (until-stop (isDone q) (passTurn q table real imaginary) (2 - d .count) d (ap (waitingOf q) (sym pe) ∙ w)) ∙ s .left
 
 -- ---- a value in, from what the two calls promise
-pub ready-dimensioned : (r : Resampler) → Ready r → Dimensioned r
-ready-dimensioned r k =
+pub admitted-dimensioned : (r : Resampler) → Admitted r → Dimensioned r
+admitted-dimensioned r k =
     let a = k .arm-low in
     let b = k .half-is in
     record { arm-some = omega arith; arm-high = k .arm-high; half-in = omega arith; write-in = k .write-in }
 
-pub pushed-dimensioned : (r : Resampler) → Ready r → Dimensioned (pushedOf r)
+pub pushed-dimensioned : (r : Resampler) → Admitted r → Dimensioned (pushedOf r)
 pushed-dimensioned r k =
-    let d = ready-dimensioned r k in
+    let d = admitted-dimensioned r k in
     record { arm-some = d .arm-some; arm-high = d .arm-high; half-in = d .half-in; write-in = mod-lt (r .write + 1) (omega arith) }
 
-module _ (r : Resampler) (k : Ready r) (F : T (fits binary64 (r .next))) (room : r .index < 2 ^ 52) (q : Resampler) (qe : q ≡ pushedOf r) where
+module _ (r : Resampler) (k : Admitted r) (F : T (fits binary64 (r .next))) (room : r .index < 2 ^ 52) (q : Resampler) (qe : q ≡ pushedOf r) where
   pub delivered-asks : (n : ℕ) → 32 * r .arm ≤ n → Dimensioned q × (Passing q × (32 * q .arm ≤ n))
   delivered-asks n h =
-      subst (λ (s : Resampler). Dimensioned s × (Passing s × (32 * s .arm ≤ n))) (sym qe) (pushed-dimensioned r k, (ready-passing r k F room, h))
+      subst (λ (s : Resampler). Dimensioned s × (Passing s × (32 * s .arm ≤ n))) (sym qe) (pushed-dimensioned r k, (admitted-passing r k F room, h))
 
   module _ (v : Complex32) (table real imaginary xs ys : List Float) (xe : xs ≡ set real (r .write) (v .real)) (ye : ys ≡ set imaginary (r .write) (v .imaginary))
       (d : Delivery) (de : d ≡ deliveredOf q table xs ys) where
@@ -373,13 +340,13 @@ module _ (r : Resampler) (k : Ready r) (F : T (fits binary64 (r .next))) (room :
         (λ i. record { passed = passedOf q (de i); real = xs; imaginary = ys })
         ∙ (λ i. record { passed = passedOf (qe i) (deliveredOf (qe i) table (xe i) (ye i)); real = xe i; imaginary = ye i })
 
-    pub resampled-kept : Kept r (passedOf q d)
+    pub resampled-kept : PassKeeps r (passedOf q d)
     resampled-kept =
-        subst (λ (e : Delivery). Kept r (passedOf q e)) (sym de)
-        (subst (λ (s : Resampler). Kept r (passedOf s (deliveredOf s table xs ys))) (sym qe)
-        (record { ready = ready-again r k F room table xs ys; few = at-most-two-outputs r k F room table xs ys; one-more = refl; same-arm = refl }))
+        subst (λ (e : Delivery). PassKeeps r (passedOf q e)) (sym de)
+        (subst (λ (s : Resampler). PassKeeps r (passedOf s (deliveredOf s table xs ys))) (sym qe)
+        (record { admitted = admitted-again r k F room table xs ys; few = at-most-two-outputs r k F room table xs ys; one-more = refl; same-arm = refl }))
 
--- ---- the test says whether a state is ready
+-- ---- the test and its facts
 sizes-say : (r : Resampler) → sizesOk r ≡ true → (14 ≤ r .arm) × (r .arm ≤ 576) × (r .half ≡ r .arm / 2) × (r .write < r .arm + 16)
 unfolding sizesOk
 sizes-say r h = go (ltb 576 (r .arm)) refl h
@@ -418,10 +385,10 @@ both-true true true c h = (refl, refl, h)
 both-true true false c h = absurd (false≢true h)
 both-true false b c h = absurd (false≢true h)
 
-pub admitted-ready : (r : Resampler) → admittedOf r ≡ true → Ready r
+pub admitted-facts : (r : Resampler) → admittedOf r ≡ true → Admitted r
 unfolding admittedOf
-admitted-ready r h =
-    let t = both-true (sizesOk r) (rangesOk r) (waits r (placeOf (r .next))) h in
+admitted-facts r h =
+    let t = both-true (sizesOk r) (rangesOk r) (waitingOf r (placedOf (r .next))) h in
     let s = sizes-say r (t .0) in
     let g = ranges-say r (t .1) in
     record {
@@ -432,12 +399,12 @@ admitted-ready r h =
       index-in = g .0;
       step-in = g .1;
       next-in = g .2;
-      idle = ltb-true (r .index) (placeOf (r .next) .position + back r) (t .2);
+      idle = ltb-true (r .index) (placedOf (r .next) .position + back r) (t .2);
     }
 
-pub ready-admitted : (r : Resampler) → Ready r → admittedOf r ≡ true
+pub facts-admitted : (r : Resampler) → Admitted r → admittedOf r ≡ true
 unfolding admittedOf sizesOk rangesOk ofBits
-ready-admitted r k =
+facts-admitted r k =
     let a = is-true (le half (r .step)) (k .step-in .lower) in
     let b = is-true (le (r .step) twenty) (k .step-in .upper) in
     let c = is-true (le f0 (r .next)) (k .next-in .lower) in
@@ -452,7 +419,7 @@ ready-admitted r k =
       b,
       c,
       d,
-      lt-ltb (r .index) (placeOf (r .next) .position + back r) (k .idle),
+      lt-ltb (r .index) (placedOf (r .next) .position + back r) (k .idle),
     )
 
 -- ---- what the test's calls ask
