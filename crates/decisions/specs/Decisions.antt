@@ -11,7 +11,7 @@ use Rattle.carrier.specs.declared.Carried.{Carried}
 use Rattle.carrier.specs.Carrier as Carrier
 use Rattle.signal.specs.declared.ViewPlace.{ViewPlace}
 use Rattle.signal.specs.Signal as Signal
-use Rattle.labels.specs.Labels.{conjugates, labelledOf, countedOf}
+use Rattle.labels.specs.Labels.{rearranges, labelledOf, countedOf}
 use Rattle.decisions.specs.declared.DecisionsPlace.{DecisionsPlace}
 use Rattle.decisions.specs.declared.step.Stepped.{Stepped}
 
@@ -26,7 +26,7 @@ toldOf p c view = record {
     locked = countedOf (p .locked) (c .answer) (c .place .turn .locked);
   };
   soft = c .soft;
-  answer = labelledOf (conjugates (p .profile)) (c .answer);
+  answer = labelledOf (rearranges (p .profile)) (c .answer);
 }
 
 -- the stage: its place, and its planes but for the soft records

@@ -22,7 +22,7 @@ use Rattle.carrier.specs.Carrier as Carrier
 use Rattle.carrier.specs.Laws.{carried-ranged}
 use Rattle.signal.specs.declared.ViewPlace.{ViewPlace}
 use Rattle.signal.specs.Signal as Signal
-use Rattle.labels.specs.Labels.{conjugates, labelledOf, countedOf}
+use Rattle.labels.specs.Labels.{rearranges, labelledOf, countedOf}
 use Rattle.labels.specs.LabelLaws.{count-within}
 use Rattle.decisions.specs.declared.step.Stepped.{Stepped}
 use Rattle.decisions.specs.declared.DecisionsPlace.{DecisionsPlace}
@@ -30,14 +30,14 @@ use Rattle.decisions.specs.Decisions.{DecisionsState, Step, toldOf, deci
 use Rattle.decisions.specs.Rows.{answerDibits, answerPair, slotAt, Room, laidIn, Lent, linkedWith, linkedOf, rowTurn, rowOf}
 use Rattle.decisions.specs.Ranges.{Ranged, Asks}
 
-pub told-is : (p : DecisionsPlace) (c : Carried) (view : ViewPlace) (symbols locked : ℕ) (conjugated : Bool) (label : Answer) (profile : ℤ)
+pub told-is : (p : DecisionsPlace) (c : Carried) (view : ViewPlace) (symbols locked : ℕ) (rearranged : Bool) (label : Answer) (profile : ℤ)
     → profile ≡ p .profile → symbols ≡ countedOf (p .symbols) (c .answer) true → locked ≡ countedOf (p .locked) (c .answer) (c .place .turn .locked)
-    → conjugated ≡ conjugates profile → label ≡ labelledOf conjugated (c .answer)
+    → rearranged ≡ rearranges profile → label ≡ labelledOf rearranged (c .answer)
     → _≡_ {A = Stepped}
     (record { place = record { carrier = c .place; view = view; profile = profile; symbols = symbols; locked = locked }; soft = c .soft; answer = label })
     (toldOf p c view)
 unfolding toldOf
-told-is p c view symbols locked conjugated label profile q s l b e = rw (s, l, e, b, q)
+told-is p c view symbols locked rearranged label profile q s l b e = rw (s, l, e, b, q)
 
 pub decided-is : (s : DecisionsState) (z : Complex32) (reliable : Bool) (oldest : Soft) (c : Carrier.Run) (v : Signal.View) (r : Stepped)
     → c ≡ Carrier.carriedOf (s .place .carrier) z reliable oldest (s .channels) (s .costs) (s .parents)
@@ -72,8 +72,8 @@ decided-ranged s z reliable oldest h =
       locked = count-within (s .place .locked) (s .place .symbols) (r .carried .answer) (r .carried .place .turn .locked) (h .locked);
     }
 
-label-counts : (n : ℕ) (a : Answer) (conjugated : Bool) → countedOf n a true ≡ n + length (answerDibits (labelledOf conjugated a))
-label-counts n Silent conjugated = omega arith
+label-counts : (n : ℕ) (a : Answer) (rearranged : Bool) → countedOf n a true ≡ n + length (answerDibits (labelledOf rearranged a))
+label-counts n Silent rearranged = omega arith
 label-counts n (Dibit d h l) true = refl
 label-counts n (Dibit d h l) false = refl
 
@@ -82,7 +82,7 @@ pub decided-counts : (s : DecisionsState) (z : Complex32) (reliable : Bool) (old
     → decidedOf s z reliable oldest .state .place .symbols ≡ s .place .symbols + length (answerDibits (decidedOf s z reliable oldest .answer))
 unfolding decidedOf toldOf
 decided-counts s z reliable oldest =
-    label-counts (s .place .symbols) (Carrier.carriedOf (s .place .carrier) z reliable oldest (s .channels) (s .costs) (s .parents) .carried .answer) (conjugates (s .place .profile))
+    label-counts (s .place .symbols) (Carrier.carriedOf (s .place .carrier) z reliable oldest (s .channels) (s .costs) (s .parents) .carried .answer) (rearranges (s .place .profile))
 
 -- the profile is kept
 pub decided-profile : (s : DecisionsState) (z : Complex32) (reliable : Bool) (oldest : Soft) → decidedOf s z reliable oldest .state .place .profile ≡ s .place .profile

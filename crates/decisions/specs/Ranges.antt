@@ -1,19 +1,15 @@
 -- The ranges of the stage's places and the lengths of its planes: what a symbol needs, and leaves. Definitions only.
-use Prim.Native.Nat.{ℕ, _+_, _*_, _≤_, _<_}
+use Prim.Native.Nat.{ℕ, _+_, _*_, _≤_}
 use lib.ListN.{length}
 use Rattle.carrier.specs.Ranges as Carrier
 pub use Rattle.labels.specs.Labels.{mostSymbols}
-use Rattle.signal.specs.declared.ViewPlace.{ViewPlace}
+use Rattle.signal.specs.Signal as Signal
 use Rattle.decisions.specs.Decisions.{DecisionsState}
 use Rattle.decisions.specs.Rows.{Room, Lent}
 
-pub record ViewRanged (p : ViewPlace) : Type 0 where
-  pub head : p .head < 1024
-  pub count : p .count ≤ 1024
-
 pub record Ranged (s : DecisionsState) : Type 0 where
   pub carrier : Carrier.Ranged (s .place .carrier) (s .channels .real) (s .channels .imaginary) (s .costs) (s .parents)
-  pub view : ViewRanged (s .place .view)
+  pub view : Signal.Admitted (s .place .view)
   pub locked : s .place .locked ≤ s .place .symbols
 
 -- room for n dibits more, and their reliabilities

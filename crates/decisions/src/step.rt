@@ -9,7 +9,7 @@ use super::POINTS;
 use carrier::Carried;
 use complex::Complex32;
 use labels::counted;
-use labels::is_conjugated;
+use labels::is_rearranged;
 use labels::labelled;
 use sequence::CHANNELS;
 use sequence::PARENTS;
@@ -38,7 +38,7 @@ fn told(p: DecisionsPlace, c: Carried, view: ViewPlace) -> Stepped
     let soft = c.soft;
     let symbols = counted(p.symbols, answer, true);
     let locked = counted(p.locked, answer, turn.locked);
-    let label = labelled(is_conjugated(p.profile), answer);
+    let label = labelled(is_rearranged(p.profile), answer);
     let place = DecisionsPlace {
         carrier,
         view,

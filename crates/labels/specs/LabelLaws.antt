@@ -10,17 +10,17 @@ use mir.Facts.{toZ-ofZ}
 use borrow.Author.Tests.{ne-eqb}
 use Rattle.sequence.specs.declared.walk.Answer.{Answer}
 use Rattle.sequence.specs.declared.walk.Answer.the-variants.{Silent, Dibit}
-use Rattle.labels.specs.Labels.{conjugates, relabelledOf, labelledOf, countedOf}
+use Rattle.labels.specs.Labels.{rearranges, relabelledOf, labelledOf, countedOf}
 
 -- ---- the profile's number, by its bits
-pub profile-one : (p : ℤ) → SFits w32 p → ofZ w32 p ≡ 1 → true ≡ conjugates p
+pub profile-one : (p : ℤ) → SFits w32 p → ofZ w32 p ≡ 1 → true ≡ rearranges p
 profile-one p f e = rw (← toZ-ofZ f, e)
 
-other : (p : ℤ) → (p ≡ pos 1 → ⊥) → false ≡ conjugates p
+other : (p : ℤ) → (p ≡ pos 1 → ⊥) → false ≡ rearranges p
 other (pos n) h = rw (ne-eqb n 1 (λ e. h (ap pos e)))
 other (negsuc n) h = refl
 
-pub profile-other : (p : ℤ) → (ofZ w32 p ≡ 1 → ⊥) → false ≡ conjugates p
+pub profile-other : (p : ℤ) → (ofZ w32 p ≡ 1 → ⊥) → false ≡ rearranges p
 profile-other p h = other p (λ e. h (ap (ofZ w32) e))
 
 -- ---- a label's three ways
@@ -28,8 +28,8 @@ pub label-silent : (b : Bool) (a : Answer) → a ≡ Silent → a ≡ labelledOf
 label-silent b a e = rw e
 
 module _ (b : Bool) (a : Answer) (d h l : ℕ) (is : a ≡ Dibit d h l) where
-  pub label-conjugated : (e m : ℕ) → b ≡ true → e ≡ relabelledOf d → m ≡ min h l → Dibit e l m ≡ labelledOf b a
-  label-conjugated e m t p q = rw (is, t, p, q)
+  pub label-rearranged : (e m : ℕ) → b ≡ true → e ≡ relabelledOf d → m ≡ min h l → Dibit e l m ≡ labelledOf b a
+  label-rearranged e m t p q = rw (is, t, p, q)
 
   pub label-kept : b ≡ false → Dibit d h l ≡ labelledOf b a
   label-kept t = rw (is, t)

@@ -9,18 +9,18 @@ use Rattle.sequence.specs.declared.walk.Answer.{Answer}
 use Rattle.sequence.specs.declared.walk.Answer.the-variants.{Silent, Dibit}
 
 -- profile 1; every other number acts as 0
-abbrev pub conjugates : ℤ → Bool
-conjugates (pos n) = eqb n 1
-conjugates (negsuc n) = false
+abbrev pub rearranges : ℤ → Bool
+rearranges (pos n) = eqb n 1
+rearranges (negsuc n) = false
 
--- conjugated labels: the higher bit is the old lower one, the lower bit the two combined
+-- rearranged labels: the higher bit is the old lower one, the lower bit the two combined
 abbrev pub relabelledOf : ℕ → ℕ
 relabelledOf dibit = getD (0 ∷ 3 ∷ 1 ∷ 2 ∷ []) dibit 2
 
 -- so the reliabilities are the old lower one, and the lesser of the two
 abbrev pub labelledOf : Bool → Answer → Answer
-labelledOf conjugated Silent = Silent
-labelledOf conjugated (Dibit dibit high low) = cond conjugated (Dibit (relabelledOf dibit) low (min high low)) (Dibit dibit high low)
+labelledOf rearranged Silent = Silent
+labelledOf rearranged (Dibit dibit high low) = cond rearranged (Dibit (relabelledOf dibit) low (min high low)) (Dibit dibit high low)
 
 -- 2^53: as many dibits as 2^52 samples, the most that are taken, can give
 abbrev pub mostSymbols : ℕ

@@ -1,12 +1,12 @@
 // A dibit as its profile labels it, and what it adds to a count.
 ghost use mathlib.Core.Path.{_≡_};
 ghost use Prim.Native.Nat.{_<_, min};
-ghost use Rattle.labels.specs.Labels.{conjugates, relabelledOf, labelledOf, mostSymbols, countedOf};
+ghost use Rattle.labels.specs.Labels.{rearranges, relabelledOf, labelledOf, mostSymbols, countedOf};
 use sequence::walk::Answer;
 
-// Profile 1 is conjugated; every other number acts as 0.
-pub fn is_conjugated(profile: i32) -> bool
-    ensures { λ r. ⌜ r ≡ conjugates profile ⌝ }
+// Whether a profile's labels are rearranged: those of profile 1 alone.
+pub fn is_rearranged(profile: i32) -> bool
+    ensures { λ r. ⌜ r ≡ rearranges profile ⌝ }
 {
     if profile == 1 { true } else { false }
 }
@@ -33,13 +33,13 @@ fn lesser(a: u8, b: u8) -> u8
 }
 
 // The reliabilities go with the bits: the combined one is as good as the worse of the two.
-pub fn labelled(conjugated: bool, answer: Answer) -> Answer
-    ensures { λ r. ⌜ r ≡ labelledOf conjugated answer ⌝ }
+pub fn labelled(rearranged: bool, answer: Answer) -> Answer
+    ensures { λ r. ⌜ r ≡ labelledOf rearranged answer ⌝ }
 {
     let Answer::Dibit(dibit, high, low) = answer else {
         return answer;
     };
-    if conjugated {
+    if rearranged {
         return Answer::Dibit(relabelled(dibit), low, lesser(high, low));
     }
     answer

@@ -12,11 +12,11 @@ use lib.Ieee.{Float}
 use Rattle.laws.specs.Turns.{turns}
 use Rattle.laws.specs.Places.{length-upto}
 use Rattle.chain.specs.declared.ChainPlace.{ChainPlace}
-use Rattle.admission.specs.declared.state.Receiver.{Receiver}
-use Rattle.admission.specs.declared.state.Snapshot.{Snapshot}
+use Rattle.receiver_state.specs.declared.state.Receiver.{Receiver}
+use Rattle.receiver_state.specs.declared.state.Snapshot.{Snapshot}
 use Rattle.receiver.specs.declared.block.Block.{Block}
-use Rattle.admission.specs.State.{snapshotOf, flagOf}
-use Rattle.admission.specs.Refusal.{numberOf}
+use Rattle.receiver_state.specs.State.{snapshotOf, flagOf}
+use Rattle.receiver_state.specs.Refusal.{numberOf}
 use Rattle.samples.specs.Samples.{realOf, imaginaryOf, isAbove, overloadTurn, overloadOf}
 use Rattle.receiver.specs.Block.{Outcome, outcomeNow, judgedOf, statedOf, acceptedOf, refusedOf, blockOf}
 use Rattle.recording.specs.Decode.{floatAt, floatsOf}

@@ -6,8 +6,8 @@ use lib.Dec.{eqb, ltb}
 use lib.IntN.{pos}
 use lib.ListN.{length}
 use lib.Ieee.{Float, binary64, ofBits}
-use Rattle.admission.specs.declared.state.Receiver.{Receiver}
-use Rattle.admission.specs.State.{zeroReceiver}
+use Rattle.receiver_state.specs.declared.state.Receiver.{Receiver}
+use Rattle.receiver_state.specs.State.{zeroReceiver}
 use Rattle.receiver.specs.Setup.{SetUp, setupOf}
 use Rattle.recording.specs.Decode.{wordAt}
 use Rattle.recording.specs.Text.{Written, writtenOf, put, closingOf, refusedOf}

@@ -13,8 +13,8 @@ use borrow.Author.Tests.{le-ltb}
 use Rattle.numbers.specs.Numbers.{wholeOf, absOf, isFinite}
 use Rattle.resampler.specs.Dimensions.{decimationOf, decimatedOf, armLengthOf, sizedOf}
 use Rattle.resampler.specs.Design as design
-use Rattle.admission.specs.declared.state.Receiver.{Receiver}
-use Rattle.admission.specs.State.{zero64, zeroReceiver, freshFront, freshReceiver}
+use Rattle.receiver_state.specs.declared.state.Receiver.{Receiver}
+use Rattle.receiver_state.specs.State.{zero64, zeroReceiver, freshFront, freshReceiver}
 use Rattle.receiver.specs.Setup.{SetUp, rateRefused, offsetRefused, setupOf}
 use Rattle.recording.specs.declared.text.Totals.{Totals}
 use Rattle.recording.specs.Decode.{wordAt}

@@ -5,11 +5,11 @@ ghost use Prim.Native.Nat.{_*_, _≤_};
 ghost use lib.ListN.{length};
 ghost use Rattle.recording.specs.Text.{writtenOf, put, closingOf};
 ghost use Rattle.program.specs.Answer.{toldNow, toldOf, totalsOf};
-use admission::refusal::Verdict;
-use admission::state::Receiver;
-use admission::state::snapshot_of;
 use chain::ChainPlace;
 use receiver::block::take;
+use receiver_state::refusal::Verdict;
+use receiver_state::state::Receiver;
+use receiver_state::state::snapshot_of;
 use recording::text::Totals;
 
 // The verdict on a block, its overload, the receiver after it, and where its lines end.

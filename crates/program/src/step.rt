@@ -3,17 +3,17 @@ ghost use mathlib.Core.Path.{_≡_};
 ghost use Prim.Native.Nat.{_+_, _≤_, _<_};
 ghost use lib.Dec.{eqb};
 ghost use lib.ListN.{length};
-ghost use Rattle.admission.specs.Refusal.{numberOf};
+ghost use Rattle.receiver_state.specs.Refusal.{numberOf};
 ghost use Rattle.recording.specs.Text.{writtenOf};
 ghost use Rattle.program.specs.declared.step.Stage.the-variants.{Head, Settings, Count, Samples, End};
 ghost use Rattle.program.specs.Program.{nextOf, wantedOf, startedOf, ranNow, refusedRan, headGood, headOf, settingsOf, settingsTable, stageOf, countOf, samplesOf, endOf, stepOf, tableOf, goneOn, leftOf, Moves};
 use crate::answer::answered;
 use crate::answer::closed;
-use admission::refusal::Verdict;
-use admission::refusal::is_accepted;
-use admission::refusal::number;
-use admission::state::Receiver;
 use receiver::setup::set_up;
+use receiver_state::refusal::Verdict;
+use receiver_state::refusal::is_accepted;
+use receiver_state::refusal::number;
+use receiver_state::state::Receiver;
 use recording::decode::count;
 use recording::decode::float;
 
@@ -46,7 +46,7 @@ pub fn started() -> Program
 {
     Program {
         stage: Stage::Head,
-        receiver: admission::state::zero(),
+        receiver: receiver_state::state::zero(),
         overload: 0,
         end: 0,
     }

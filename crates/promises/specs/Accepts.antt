@@ -17,16 +17,16 @@ use Rattle.resampler.specs.Dimensions as resampler
 use Rattle.sequence.specs.Sequence as sequence
 use Rattle.front.specs.Front as front
 use Rattle.front.specs.Steps as steps
-use Rattle.labels.specs.Labels.{conjugates}
+use Rattle.oscillator.specs.Oscillator.{conjugatedOf}
 use Rattle.chain.specs.Rows.{chainOf}
 use Rattle.chain.specs.RowLaws.{Left, chain-left}
-use Rattle.admission.specs.declared.state.Receiver.{Receiver}
-use Rattle.admission.specs.Refusal.{firstOf}
-use Rattle.admission.specs.State.{zero32, freshFront, freshReceiver}
+use Rattle.receiver_state.specs.declared.state.Receiver.{Receiver}
+use Rattle.receiver_state.specs.Refusal.{firstOf}
+use Rattle.receiver_state.specs.State.{zero32, freshFront, freshReceiver}
 use Rattle.receiver.specs.Setup.{setupChecks, setupBy, setupOf}
 use Rattle.samples.specs.Samples.{countOf, finiteOf}
-use Rattle.admission.specs.Admitted.{admittedOf}
-use Rattle.admission.specs.Fits.{fits-from}
+use Rattle.receiver_state.specs.Admitted.{admittedOf}
+use Rattle.receiver_state.specs.Fits.{fits-from}
 use Rattle.samples.specs.Run.{frontAt, wholeOf, Going, ReadyRun}
 use Rattle.receiver.specs.Block.{countRefused, roomRefused, judgedOf, statedOf, startOf, blockOf}
 use Rattle.receiver.specs.BlockWays.{counted}
@@ -124,7 +124,7 @@ module _ (r : Receiver) (table xs : List Float) (ds rs : List ℕ) (t : Typed r)
   asks = run-asks r table xs ds rs ready (t .keeper-real) (t .keeper-imaginary) (t .channel-real) (t .channel-imaginary) (t .costs) (t .parents)
 
   abbrev conjugated : Bool
-  conjugated = conjugates (r .chain .profile)
+  conjugated = conjugatedOf (r .chain .profile)
 
   abbrev before : front.Run
   before = record { rung = startOf r ds rs .rung; values = [] }

@@ -13,11 +13,11 @@ use Rattle.complex.specs.declared.Complex32.{Complex32}
 use Rattle.taps.specs.Taps.{bothTables}
 use Rattle.sequence.specs.declared.soft.Slot.{Slot}
 use Rattle.front.specs.Front as front
-use Rattle.labels.specs.Labels.{conjugates}
+use Rattle.oscillator.specs.Oscillator.{conjugatedOf}
 use Rattle.chain.specs.Chain.{ChainState}
 use Rattle.chain.specs.Rows.{dibitsOf, pairOf, recordsAfter, Told, start, slotAt, nextOf, told, ranOf, chainOf}
 use Rattle.chain.specs.RowLaws.{ran-profile, ran-append}
-use Rattle.admission.specs.declared.state.Receiver.{Receiver}
+use Rattle.receiver_state.specs.declared.state.Receiver.{Receiver}
 use Rattle.samples.specs.Samples.{countOf, realOf, imaginaryOf, finiteOf, isAbove, overloadOf}
 use Rattle.samples.specs.Run.{wholeOf}
 use Rattle.receiver.specs.Block.{startOf, receiverOf}
@@ -138,7 +138,7 @@ made total g s records = receiverOf total (record { rung = g; lent = record { st
 
 module _ (r : Receiver) (table xs ys : List Float) where
   abbrev conjugated : Bool
-  conjugated = conjugates (r .chain .profile)
+  conjugated = conjugatedOf (r .chain .profile)
 
   abbrev ran : List Complex32 → Told → Told
   ran = ranOf (bothTables .taps) (bothTables .derivatives)
@@ -159,9 +159,9 @@ module _ (r : Receiver) (table xs ys : List Float) where
   abbrev toldSecond : Told
   toldSecond = ran (frontSecond .values) (start (toldFirst .state) (toldFirst .records))
 
-  same-profile : conjugates (afterOf r table xs .chain .profile) ≡ conjugated
+  same-profile : conjugatedOf (afterOf r table xs .chain .profile) ≡ conjugated
   unfolding afterOf wholeOf chainOf
-  same-profile = ap conjugates (ran-profile (bothTables .taps) (bothTables .derivatives) (frontFirst .values) started)
+  same-profile = ap conjugatedOf (ran-profile (bothTables .taps) (bothTables .derivatives) (frontFirst .values) started)
 
   after-second : afterOf (afterOf r table xs) table ys ≡ made (r .total + countOf xs + countOf ys) (frontSecond .rung) (toldSecond .state) (toldSecond .records)
   unfolding afterOf wholeOf chainOf

@@ -10,7 +10,7 @@ use Rattle.taps.specs.Taps.{bothTables}
 use Rattle.sequence.specs.declared.soft.Slot.{Slot}
 use Rattle.chain.specs.Chain.{ChainState, Step}
 use Rattle.chain.specs.Rows.{recordsAfter, slotAt, nextOf}
-use Rattle.admission.specs.declared.state.Receiver.{Receiver}
+use Rattle.receiver_state.specs.declared.state.Receiver.{Receiver}
 use Rattle.receiver.specs.Block.{startOf}
 use Rattle.promises.specs.Deliveries.{Delivery, deliveryOf, valuesOf}
 use Rattle.promises.specs.Compose.{deliveredDibits}

@@ -7,8 +7,8 @@ use native.Mathlib.Omega.{arith}
 use lib.ListN.{length, take, length-append}
 use lib.Seq.{take-at}
 use lib.Ieee.{Float}
-use Rattle.admission.specs.declared.state.Receiver.{Receiver}
-use Rattle.admission.specs.State.{snapshotOf}
+use Rattle.receiver_state.specs.declared.state.Receiver.{Receiver}
+use Rattle.receiver_state.specs.State.{snapshotOf}
 use Rattle.samples.specs.Samples.{countOf, finiteOf}
 use Rattle.laws.specs.Branches.{and-true}
 use Rattle.receiver.specs.Block.{Outcome, blockOf}

@@ -23,8 +23,8 @@ use Rattle.recovery.specs.Recovery as recovery
 use Rattle.decisions.specs.Decisions as decisions
 use Rattle.chain.specs.Chain.{ChainState, recoveryOf, decisionsOf, heardOf, steppedOf}
 use Rattle.chain.specs.Rows.{Told, start, told, ranOf, chainOf}
-use Rattle.admission.specs.declared.state.Receiver.{Receiver}
-use Rattle.admission.specs.State.{zero32, freshReceiver}
+use Rattle.receiver_state.specs.declared.state.Receiver.{Receiver}
+use Rattle.receiver_state.specs.State.{zero32, freshReceiver}
 use Rattle.samples.specs.Run.{wholeOf}
 use Rattle.receiver.specs.Setup.{setupOf}
 use Rattle.receiver.specs.Block.{startOf, Outcome}

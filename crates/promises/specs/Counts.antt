@@ -17,15 +17,15 @@ use Rattle.sequence.specs.declared.walk.Answer.{Answer}
 use Rattle.sequence.specs.declared.walk.Answer.the-variants.{Silent, Dibit}
 use Rattle.sequence.specs.Observed.{recordBefore}
 use Rattle.carrier.specs.Carrier as carrier
-use Rattle.labels.specs.Labels.{conjugates, labelledOf, countedOf}
+use Rattle.labels.specs.Labels.{rearranges, labelledOf, countedOf}
 use Rattle.recovery.specs.declared.step.Found.{Found}
 use Rattle.recovery.specs.declared.step.Found.the-variants.{Nothing, Here}
 use Rattle.recovery.specs.Recovery as recovery
 use Rattle.decisions.specs.Decisions as decisions
 use Rattle.chain.specs.Chain.{ChainState, recoveryOf, decisionsOf, Quiet, Heard, Step, heardOf, steppedOf}
 use Rattle.chain.specs.Rows.{recordsAfter, Told, start, slotAt, nextOf, told, ranOf, chainOf}
-use Rattle.admission.specs.declared.state.Receiver.{Receiver}
-use Rattle.admission.specs.State.{freshReceiver, snapshotOf}
+use Rattle.receiver_state.specs.declared.state.Receiver.{Receiver}
+use Rattle.receiver_state.specs.State.{freshReceiver, snapshotOf}
 use Rattle.samples.specs.Run.{wholeOf}
 use Rattle.receiver.specs.Setup.{setupOf}
 use Rattle.receiver.specs.Block.{startOf, Outcome, refusedOf, blockOf}
@@ -44,12 +44,12 @@ record Counting (s : ChainState) (n : Step) : Type 0 where
   symbols : n .state .place .symbols ≡ s .place .symbols + length (deliveryOf (n .outcome))
   locked : n .state .place .locked ≡ s .place .locked + length (lockedDelivery n)
 
-answer-counts : (n : ℕ) (a : Answer) (counts conjugated : Bool) (soft : Soft) → countedOf n a counts ≡ n + length (cond counts (deliveryOf (Heard soft (labelledOf conjugated a))) [])
-answer-counts n Silent true conjugated soft = omega arith
-answer-counts n Silent false conjugated soft = omega arith
+answer-counts : (n : ℕ) (a : Answer) (counts rearranged : Bool) (soft : Soft) → countedOf n a counts ≡ n + length (cond counts (deliveryOf (Heard soft (labelledOf rearranged a))) [])
+answer-counts n Silent true rearranged soft = omega arith
+answer-counts n Silent false rearranged soft = omega arith
 answer-counts n (Dibit d h l) true true soft = refl
 answer-counts n (Dibit d h l) true false soft = refl
-answer-counts n (Dibit d h l) false conjugated soft = omega arith
+answer-counts n (Dibit d h l) false rearranged soft = omega arith
 
 heard-counts : (f : Found) (s : ChainState) (r : recovery.RecoveryState) (oldest : Soft) → Counting s (heardOf f r (decisionsOf s) oldest)
 unfolding heardOf decisions.decidedOf decisions.toldOf
@@ -60,10 +60,10 @@ heard-counts Nothing s r oldest = record { symbols = omega arith; locked = none 
     none false n = omega arith
 heard-counts (Here z reliable) s r oldest =
     let c = carrier.carriedOf (s .place .carrier) z reliable oldest (s .channels) (s .costs) (s .parents) .carried in
-    let conjugated = conjugates (s .place .profile) in
+    let rearranged = rearranges (s .place .profile) in
     record {
-      symbols = answer-counts (s .place .symbols) (c .answer) true conjugated (c .soft);
-      locked = answer-counts (s .place .locked) (c .answer) (c .place .turn .locked) conjugated (c .soft);
+      symbols = answer-counts (s .place .symbols) (c .answer) true rearranged (c .soft);
+      locked = answer-counts (s .place .locked) (c .answer) (c .place .turn .locked) rearranged (c .soft);
     }
 
 -- ---- values: the chain over them

@@ -8,7 +8,7 @@ use lib.Ieee.{Float}
 use Rattle.laws.specs.Turns.{turns}
 use Rattle.front.specs.Front as front
 use Rattle.chain.specs.Rows.{ranOf, chainOf}
-use Rattle.admission.specs.declared.state.Receiver.{Receiver}
+use Rattle.receiver_state.specs.declared.state.Receiver.{Receiver}
 use Rattle.samples.specs.Samples.{countOf, overloadOf}
 use Rattle.samples.specs.Run.{wholeOf}
 use Rattle.receiver.specs.Block.{startOf, receiverOf, Outcome, blockOf}

@@ -18,7 +18,7 @@ use Rattle.numbers.specs.Numbers.{wholeOf, absOf, isFinite}
 use Rattle.complex.specs.declared.Complex32.{Complex32}
 use Rattle.complex.specs.Complex.{zeroPair}
 use Rattle.oscillator.specs.declared.Oscillator.{Oscillator}
-use Rattle.oscillator.specs.Oscillator.{freshOf as freshOscillator, turnedOf, mixedOf}
+use Rattle.oscillator.specs.Oscillator.{conjugatedOf, freshOf as freshOscillator, turnedOf, mixedOf}
 use Rattle.decimator.specs.declared.Decimator.{Decimator}
 use Rattle.decimator.specs.declared.Output.{Output}
 use Rattle.decimator.specs.declared.Output.the-variants.{Nothing, Value}
@@ -36,15 +36,14 @@ use Rattle.resampler.specs.Ranges.{sized-in}
 use Rattle.front.specs.Front as front
 use Rattle.taps.specs.Taps.{bothTables}
 use Rattle.sequence.specs.declared.soft.Slot.{Slot}
-use Rattle.labels.specs.Labels.{conjugates}
 use Rattle.chain.specs.Chain as chain
 use Rattle.chain.specs.Rows as rows
 use Rattle.chain.specs.RowLaws.{ran-profile}
-use Rattle.admission.specs.declared.state.Receiver.{Receiver}
-use Rattle.admission.specs.State.{zero64, freshReceiver}
+use Rattle.receiver_state.specs.declared.state.Receiver.{Receiver}
+use Rattle.receiver_state.specs.State.{zero64, freshReceiver}
 use Rattle.receiver.specs.Setup.{rateRefused, offsetRefused, setupOf}
-use Rattle.admission.specs.Admitted.{admittedOf}
-use Rattle.admission.specs.Fits.{fits-from}
+use Rattle.receiver_state.specs.Admitted.{admittedOf}
+use Rattle.receiver_state.specs.Fits.{fits-from}
 use Rattle.samples.specs.Samples.{countOf}
 use Rattle.samples.specs.Run.{frontAt, wholeOf as wholeRun}
 use Rattle.receiver.specs.Block.{Judged, judgedOf, startOf, acceptedOf, blockOf}
@@ -149,24 +148,24 @@ answered r c = go (eqb (judged .number) 0) refl
 
 -- the state after an accepted one answers from where the front came to
 moved-on : (r : Receiver) (c : Call) → Accepted r c → (zs : List Complex32)
-    → outputsOf (answeredOf r c .receiver .front .decimator) (mixedRow (conjugates (answeredOf r c .receiver .chain .profile)) (answeredOf r c .receiver .front .oscillator) zs)
-    ≡ outputsOf (decimatorAfter (r .front .decimator) (mixedRow (conjugates (r .chain .profile)) (r .front .oscillator) (upto (front.sampleAt (c .samples)) (countOf (c .samples)))))
-    (mixedRow (conjugates (r .chain .profile)) (oscillatorAfter (r .front .oscillator) (upto (front.sampleAt (c .samples)) (countOf (c .samples)))) zs)
+    → outputsOf (answeredOf r c .receiver .front .decimator) (mixedRow (conjugatedOf (answeredOf r c .receiver .chain .profile)) (answeredOf r c .receiver .front .oscillator) zs)
+    ≡ outputsOf (decimatorAfter (r .front .decimator) (mixedRow (conjugatedOf (r .chain .profile)) (r .front .oscillator) (upto (front.sampleAt (c .samples)) (countOf (c .samples)))))
+    (mixedRow (conjugatedOf (r .chain .profile)) (oscillatorAfter (r .front .oscillator) (upto (front.sampleAt (c .samples)) (countOf (c .samples)))) zs)
 moved-on r c t zs =
-    let b = conjugates (r .chain .profile) in
+    let b = conjugatedOf (r .chain .profile) in
     let k = countOf (c .samples) in
     let h : front.Run = record { rung = startOf r (c .dibits) (c .reliabilities) .rung; values = [] } in
-    (λ i. outputsOf (t .moved i .place .decimator) (mixedRow (conjugates (t .profile i)) (t .moved i .place .oscillator) zs))
+    (λ i. outputsOf (t .moved i .place .decimator) (mixedRow (conjugatedOf (t .profile i)) (t .moved i .place .oscillator) zs))
     ∙ (λ i. outputsOf (decimator-at b (c .table) (c .samples) h k i) (mixedRow b (oscillator-at b (c .table) (c .samples) h k i) zs))
 
 -- ---- all calls: what the decimator gives for each sample taken is its outputs to the mixed samples in one row
-pub given-is : (r : Receiver) (cs : List Call) → givenOf r cs ≡ outputsOf (r .front .decimator) (mixedRow (conjugates (r .chain .profile)) (r .front .oscillator) (takenOf r cs))
+pub given-is : (r : Receiver) (cs : List Call) → givenOf r cs ≡ outputsOf (r .front .decimator) (mixedRow (conjugatedOf (r .chain .profile)) (r .front .oscillator) (takenOf r cs))
 unfolding givenOf takenOf front.samplesOf
 given-is r [] = unfold mixedRow outputsOf in refl
 given-is r (c ∷ cs) = elim (answered r c) [
   | inl t ↦
       let after = answeredOf r c .receiver in
-      let b = conjugates (r .chain .profile) in
+      let b = conjugatedOf (r .chain .profile) in
       let q = r .front .oscillator in
       let t₀ = r .front .decimator in
       let rest = takenOf after cs in
@@ -182,8 +181,8 @@ given-is r (c ∷ cs) = elim (answered r c) [
       let after = answeredOf r c .receiver in
       ap (λ (y : Bool). cond y (upto (givenAt r c) (countOf (c .samples))) [] ++ givenOf after cs) (t .refused)
       ∙ given-is after cs
-      ∙ ap (λ (u : Receiver). outputsOf (u .front .decimator) (mixedRow (conjugates (u .chain .profile)) (u .front .oscillator) (takenOf after cs))) (t .receiver)
-      ∙ ap (λ (y : Bool). outputsOf (r .front .decimator) (mixedRow (conjugates (r .chain .profile)) (r .front .oscillator) (takenWhere y c ++ takenOf after cs))) (sym (t .refused))
+      ∙ ap (λ (u : Receiver). outputsOf (u .front .decimator) (mixedRow (conjugatedOf (u .chain .profile)) (u .front .oscillator) (takenOf after cs))) (t .receiver)
+      ∙ ap (λ (y : Bool). outputsOf (r .front .decimator) (mixedRow (conjugatedOf (r .chain .profile)) (r .front .oscillator) (takenWhere y c ++ takenOf after cs))) (sym (t .refused))
 ]
 
 -- and that is what the resampler takes: its place, its ring and the values that it makes go on by it and by nothing else
@@ -192,8 +191,8 @@ unfolding front.frontOf turns front.more front.frontStep
 hears r c k = refl
 
 pub makes : (r : Receiver) (c : Call) (k : ℕ)
-    → frontAt (conjugates (r .chain .profile)) (c .table) (c .samples) (startOf r (c .dibits) (c .reliabilities)) (suc k) .values
-    ≡ frontAt (conjugates (r .chain .profile)) (c .table) (c .samples) (startOf r (c .dibits) (c .reliabilities)) k .values ++ resampleValues (c .table) (front.ringOf (rungBefore r c k)) (givenAt r c k)
+    → frontAt (conjugatedOf (r .chain .profile)) (c .table) (c .samples) (startOf r (c .dibits) (c .reliabilities)) (suc k) .values
+    ≡ frontAt (conjugatedOf (r .chain .profile)) (c .table) (c .samples) (startOf r (c .dibits) (c .reliabilities)) k .values ++ resampleValues (c .table) (front.ringOf (rungBefore r c k)) (givenAt r c k)
 unfolding front.frontOf turns front.more front.frontStep
 makes r c k = refl
 
@@ -221,14 +220,14 @@ module _ (rate offset : Float) (profile : ℤ) (table : List Float) where
 
   -- the samples taken since setup, mixed
   abbrev pub mixed : List Call → List Complex32
-  mixed cs = mixedRow (conjugates profile) (freshOscillator rate offset) (takenOf fresh cs)
+  mixed cs = mixedRow (conjugatedOf profile) (freshOscillator rate offset) (takenOf fresh cs)
 
   -- and quantised
   abbrev pub quantised : List Call → List Counts
   quantised cs = map countsOf (mixed cs)
 
   mixed-all : (cs : List Call) → length (mixed cs) ≡ length (takenOf fresh cs)
-  mixed-all cs = mixed-length (conjugates profile) (freshOscillator rate offset) (takenOf fresh cs)
+  mixed-all cs = mixed-length (conjugatedOf profile) (freshOscillator rate offset) (takenOf fresh cs)
 
   module _ (accepted : setupOf rate offset profile table .number ≡ 0) where
     sized : Sized (sizedOf rate)
@@ -238,7 +237,7 @@ module _ (rate offset : Float) (profile : ℤ) (table : List Float) where
     unfolding freshReceiver
     given-fresh cs =
         let e = setup-fresh rate offset profile table accepted .receiver in
-        given-is fresh cs ∙ (λ i. outputsOf (e i .front .decimator) (mixedRow (conjugates (e i .chain .profile)) (e i .front .oscillator) (takenOf fresh cs)))
+        given-is fresh cs ∙ (λ i. outputsOf (e i .front .decimator) (mixedRow (conjugatedOf (e i .chain .profile)) (e i .front .oscillator) (takenOf fresh cs)))
 
     -- d = 1 passes the mixed samples through
     pub given-through : (cs : List Call) → d ≤ 1 → givenOf fresh cs ≡ map Value (mixed cs)
@@ -269,7 +268,7 @@ module _ (rate offset : Float) (profile : ℤ) (table : List Float) where
 
       -- so where those mixed samples have parts of at most 2 ^ 29 in size
       pub sounds-small : (n + 1) % d ≡ 0 → ((i : ℕ) → i ≤ n → n < i + (3 * d - 2) → Small (getD (mixed cs) i zeroPair)) → getD (givenOf fresh cs) n Nothing ≡ Value (scaledOf d (sumsAt d (quantised cs) n))
-      sounds-small e k = sounds-exactly e (λ a m. small-counts (conjugates profile) (freshOscillator rate offset) (takenOf fresh cs) n a (λ h. k (n - a) (omega arith) (omega arith)))
+      sounds-small e k = sounds-exactly e (λ a m. small-counts (conjugatedOf profile) (freshOscillator rate offset) (takenOf fresh cs) n a (λ h. k (n - a) (omega arith) (omega arith)))
 
     -- what was taken more than 3d - 2 samples ago leaves nothing behind
     pub forgets-within : (cs es : List Call) (n : ℕ) → n < length (takenOf fresh cs) → n < length (takenOf fresh es)
@@ -281,7 +280,7 @@ module _ (rate offset : Float) (profile : ℤ) (table : List Float) where
         let q = mixed-all es in
         ap (λ (os : List Output). getD os n Nothing) (given-fresh cs)
         ∙ outputs-forget d (omega arith) zeroPair (mixed cs) (mixed es) n (omega arith) (omega arith)
-        (λ i h k. mixed-same (conjugates profile) (freshOscillator rate offset) zeroPair (takenOf fresh cs) (takenOf fresh es) i (omega arith) (omega arith) (same i h k))
+        (λ i h k. mixed-same (conjugatedOf profile) (freshOscillator rate offset) zeroPair (takenOf fresh cs) (takenOf fresh es) i (omega arith) (omega arith) (same i h k))
         ∙ ap (λ (os : List Output). getD os n Nothing) (sym (given-fresh es))
 
 -- such setups there are: 384,000 samples a second (P9), d = 2, in the middle of the band, with room for 9,216 taps
@@ -309,14 +308,14 @@ pub recovers-within : (r : Receiver) → admittedOf r ≡ true → 1 < r .front 
     → (cs : List Call) (n : ℕ) → n < length (takenOf r cs) → 4 * r .front .decimator .decimation ≤ r .front .decimator .counter + n + 1
     → getD (givenOf r cs) n Nothing
     ≡ cond (eqb ((r .front .decimator .counter + n + 1) % r .front .decimator .decimation) 0)
-    (Value (scaledOf (r .front .decimator .decimation) (wrappedSums (r .front .decimator .decimation) (map countsOf (mixedRow (conjugates (r .chain .profile)) (r .front .oscillator) (takenOf r cs))) n))) Nothing
+    (Value (scaledOf (r .front .decimator .decimation) (wrappedSums (r .front .decimator .decimation) (map countsOf (mixedRow (conjugatedOf (r .chain .profile)) (r .front .oscillator) (takenOf r cs))) n))) Nothing
 unfolding outputOf
 recovers-within r h D R I cs n l m =
     let t = r .front .decimator in
-    let zs = mixedRow (conjugates (r .chain .profile)) (r .front .oscillator) (takenOf r cs) in
-    let early : t .counter < t .decimation = fits-from (r .total) (r .front) (r .chain) (r .parents) h .front-fits .early in
+    let zs = mixedRow (conjugatedOf (r .chain .profile)) (r .front .oscillator) (takenOf r cs) in
+    let early : t .counter < t .decimation = fits-from (r .total) (r .front) (r .chain) (r .parents) h .front-fits .decimator .counter-in in
     let a = length-map zs countsOf in
-    let b = mixed-length (conjugates (r .chain .profile)) (r .front .oscillator) (takenOf r cs) in
+    let b = mixed-length (conjugatedOf (r .chain .profile)) (r .front .oscillator) (takenOf r cs) in
     ap (λ (os : List Output). getD os n Nothing) (given-is r cs)
     ∙ answered-at (t .decimation) D t (record { by = refl; early = early }) zs n
     ∙ ap (outputOf (t .decimation)) (recovers t R I early (map countsOf zs) n (omega arith) m)

@@ -13,12 +13,12 @@ use Rattle.complex.specs.declared.Complex32.{Complex32}
 use Rattle.taps.specs.Taps.{bothTables}
 use Rattle.sequence.specs.declared.soft.Slot.{Slot}
 use Rattle.sequence.specs.declared.walk.Answer.the-variants.{Silent, Dibit}
-use Rattle.labels.specs.Labels.{conjugates}
+use Rattle.oscillator.specs.Oscillator.{conjugatedOf}
 use Rattle.chain.specs.Chain.{ChainState, Outcome as Result, Quiet, Heard}
 use Rattle.chain.specs.Rows.{dibitsOf, pairOf, recordsAfter, Told, start, slotAt, nextOf, told, ranOf, Room, laidIn, chainOf}
 use Rattle.chain.specs.RowLaws.{one-most}
-use Rattle.admission.specs.declared.state.Receiver.{Receiver}
-use Rattle.admission.specs.State.{snapshotOf}
+use Rattle.receiver_state.specs.declared.state.Receiver.{Receiver}
+use Rattle.receiver_state.specs.State.{snapshotOf}
 use Rattle.samples.specs.Samples.{countOf, overloadOf}
 use Rattle.samples.specs.Run.{frontAt, wholeOf}
 use Rattle.samples.specs.Delivered.{values-most}
@@ -55,13 +55,13 @@ bytesIn (d ∷ l) = d .high ∷ d .low ∷ bytesIn l
 
 -- ---- a block: the front's values, what they deliver, and the state that is returned
 abbrev pub valuesOf : Receiver → List Float → List Float → List Complex32
-valuesOf r table xs = frontAt (conjugates (r .chain .profile)) table xs (startOf r [] []) (countOf xs) .values
+valuesOf r table xs = frontAt (conjugatedOf (r .chain .profile)) table xs (startOf r [] []) (countOf xs) .values
 
 unfoldable pub deliveriesOf : Receiver → List Float → List Float → List Delivery
 deliveriesOf r table xs = deliveries (bothTables .taps) (bothTables .derivatives) (valuesOf r table xs) (startOf r [] [] .lent .state) (r .records .slots)
 
 unfoldable pub afterOf : Receiver → List Float → List Float → Receiver
-afterOf r table xs = receiverOf (r .total + countOf xs) (wholeOf (conjugates (r .chain .profile)) table xs (startOf r [] []))
+afterOf r table xs = receiverOf (r .total + countOf xs) (wholeOf (conjugatedOf (r .chain .profile)) table xs (startOf r [] []))
 
 -- an accepted block by what it delivers: laid over the rooms' start, and after it what lay there
 abbrev pub outcomeOf : Receiver → List Float → List Float → List ℕ → List ℕ → Outcome
@@ -151,7 +151,7 @@ pub delivered-few : (r : Receiver) (table xs : List Float) → length (deliverie
 unfolding deliveriesOf
 delivered-few r table xs =
     let a = few (bothTables .taps) (bothTables .derivatives) (valuesOf r table xs) (startOf r [] [] .lent .state) (r .records .slots) in
-    let b : length (valuesOf r table xs) ≤ 0 + 2 * countOf xs = values-most (conjugates (r .chain .profile)) table xs (countOf xs) (record { rung = startOf r [] [] .rung; values = [] }) in
+    let b : length (valuesOf r table xs) ≤ 0 + 2 * countOf xs = values-most (conjugatedOf (r .chain .profile)) table xs (countOf xs) (record { rung = startOf r [] [] .rung; values = [] }) in
     omega arith
 
 -- the number that a block answers is that of its checks

@@ -22,8 +22,8 @@ use Rattle.resampler.specs.Dimensions as resampler
 use Rattle.front.specs.Resample.{ResamplerState, resampleState, resampleValues}
 use Rattle.resampler.specs.Pass.{placedOf, waitingOf, filteredOf, startOf, isDone, passTurn, deliveredOf, pushedOf, resampledOf}
 use Rattle.resampler.specs.AdmittedLaws.{count-emitted}
-use Rattle.admission.specs.declared.state.Receiver.{Receiver}
-use Rattle.admission.specs.State.{zero64, freshReceiver}
+use Rattle.receiver_state.specs.declared.state.Receiver.{Receiver}
+use Rattle.receiver_state.specs.State.{zero64, freshReceiver}
 use Rattle.promises.specs.Tables.{setup-fresh}
 use Rattle.promises.specs.Taken.{givenOf}
 use Rattle.promises.specs.Decimates.{p9-sizes}

@@ -28,8 +28,8 @@ use Rattle.decimator.specs.Values.{outputs-through}
 use Rattle.front.specs.FiltersForget.{Like}
 use Rattle.resampler.specs.Dimensions.{sizedOf}
 use Rattle.front.specs.Front as front
-use Rattle.labels.specs.Labels.{conjugates}
-use Rattle.admission.specs.declared.state.Receiver.{Receiver}
+use Rattle.oscillator.specs.Oscillator.{conjugatedOf}
+use Rattle.receiver_state.specs.declared.state.Receiver.{Receiver}
 use Rattle.receiver.specs.Setup.{setupOf}
 use Rattle.promises.specs.Taken.{Call, takenOf, givenOf, mixedRow}
 use Rattle.promises.specs.Decimates.{mixed-length, mixed-same, given-is, forgets-within, recovers-within}
@@ -89,7 +89,7 @@ pub record Alike (r q : Receiver) : Type 0 where
   pub decimation : r .front .decimator .decimation ≡ q .front .decimator .decimation
   pub counter : r .front .decimator .counter ≡ q .front .decimator .counter
   pub resampler : r .front .resampler ≡ q .front .resampler
-  pub profile : conjugates (r .chain .profile) ≡ conjugates (q .chain .profile)
+  pub profile : conjugatedOf (r .chain .profile) ≡ conjugatedOf (q .chain .profile)
   pub first-typed : FrontTyped r
   pub second-typed : FrontTyped q
 
@@ -118,17 +118,17 @@ sums-alike d zs ws n h same =
 
 module _ (r q : Receiver) (k : Alike r q) (cs es : List Call) where
   abbrev mixed-first : List Complex32
-  mixed-first = mixedRow (conjugates (r .chain .profile)) (r .front .oscillator) (takenOf r cs)
+  mixed-first = mixedRow (conjugatedOf (r .chain .profile)) (r .front .oscillator) (takenOf r cs)
 
   abbrev mixed-second : List Complex32
-  mixed-second = mixedRow (conjugates (q .chain .profile)) (q .front .oscillator) (takenOf q es)
+  mixed-second = mixedRow (conjugatedOf (q .chain .profile)) (q .front .oscillator) (takenOf q es)
 
   abbrev Taken : ℕ → Type 0
   Taken i = getD (takenOf r cs) i zeroPair ≡ getD (takenOf q es) i zeroPair
 
   mixed-alike : (i : ℕ) → i < length (takenOf r cs) → i < length (takenOf q es) → Taken i → getD mixed-first i zeroPair ≡ getD mixed-second i zeroPair
   mixed-alike i l m e =
-      mixed-same (conjugates (r .chain .profile)) (r .front .oscillator) zeroPair (takenOf r cs) (takenOf q es) i l m e
+      mixed-same (conjugatedOf (r .chain .profile)) (r .front .oscillator) zeroPair (takenOf r cs) (takenOf q es) i l m e
       ∙ (λ j. getD (mixedRow (k .profile j) (k .oscillator j) (takenOf q es)) i zeroPair)
 
   module _ (i : ℕ) (l : i < length (takenOf r cs)) (m : i < length (takenOf q es)) (same : (j : ℕ) → j ≤ i → i < j + (3 * r .front .decimator .decimation - 2) → Taken j) where
@@ -150,8 +150,8 @@ module _ (r q : Receiver) (k : Alike r q) (cs es : List Call) where
     given-through D =
         let f = k .decimation in
         let some = fits r q cs es i 0 l m f (k .counter) .some in
-        let a = mixed-length (conjugates (r .chain .profile)) (r .front .oscillator) (takenOf r cs) in
-        let b = mixed-length (conjugates (q .chain .profile)) (q .front .oscillator) (takenOf q es) in
+        let a = mixed-length (conjugatedOf (r .chain .profile)) (r .front .oscillator) (takenOf r cs) in
+        let b = mixed-length (conjugatedOf (q .chain .profile)) (q .front .oscillator) (takenOf q es) in
         ap (λ (os : List Output). getD os i Nothing) (given-is r cs ∙ outputs-through (r .front .decimator) D mixed-first)
         ∙ value-at mixed-first i (omega arith)
         ∙ ap Value (mixed-alike i l m (same i (omega arith) (omega arith)))

@@ -17,15 +17,14 @@ use Rattle.decimator.specs.declared.Output.{Output}
 use Rattle.decimator.specs.declared.Output.the-variants.{Nothing, Value}
 use Rattle.decimator.specs.Decimator.{modulo, integratedOf, advancedOf, countsOf, freshOf, steppedOf}
 use Rattle.decimator.specs.Part.{Words}
-use Rattle.oscillator.specs.Oscillator.{mixedOf}
+use Rattle.oscillator.specs.Oscillator.{conjugatedOf, mixedOf}
 use Rattle.front.specs.Resample.{ResamplerState, resampleState}
 use Rattle.resampler.specs.Pass.{resampledOf}
 use Rattle.resampler.specs.Dimensions.{sizedOf}
 use Rattle.resampler.specs.Dimensions as resampler
 use Rattle.front.specs.Front as front
-use Rattle.labels.specs.Labels.{conjugates}
-use Rattle.admission.specs.declared.state.Receiver.{Receiver}
-use Rattle.admission.specs.State.{zero32, freshReceiver}
+use Rattle.receiver_state.specs.declared.state.Receiver.{Receiver}
+use Rattle.receiver_state.specs.State.{zero32, freshReceiver}
 use Rattle.samples.specs.Samples.{countOf}
 use Rattle.receiver.specs.Block.{startOf}
 use Rattle.receiver.specs.Setup.{setupOf}
@@ -116,7 +115,7 @@ pub block-front-typed : (r : Receiver) (c : Call) → FrontTyped r → FrontType
 block-front-typed r c k = elim (answered r c) [
   | inl t ↦
       typed-from (answeredOf r c .receiver) (subst Sound (sym (t .moved))
-      (front-sound (conjugates (r .chain .profile)) (c .table) (c .samples) (countOf (c .samples)) (record { rung = startOf r [] [] .rung; values = [] })
+      (front-sound (conjugatedOf (r .chain .profile)) (c .table) (c .samples) (countOf (c .samples)) (record { rung = startOf r [] [] .rung; values = [] })
       (record { real-words = k .real-words; imaginary-words = k .imaginary-words; ring-real = k .ring-real; ring-imaginary = k .ring-imaginary })))
   | inr t ↦ subst FrontTyped (sym (t .receiver)) k
 ]

@@ -8,7 +8,7 @@ use Rattle.laws.specs.Places.{upto}
 use Rattle.complex.specs.declared.Complex32.{Complex32}
 use Rattle.front.specs.Resample.{resampleValues}
 use Rattle.front.specs.Front as front
-use Rattle.admission.specs.declared.state.Receiver.{Receiver}
+use Rattle.receiver_state.specs.declared.state.Receiver.{Receiver}
 use Rattle.samples.specs.Samples.{countOf}
 use Rattle.promises.specs.Taken.{Call, answeredOf, rungBefore, givenAt}
 

@@ -29,10 +29,11 @@ use Rattle.resampler.specs.Pass.{pushedOf, resampledOf}
 use Rattle.resampler.specs.Forgets.{next-same}
 use Rattle.front.specs.FiltersForget.{Like, like-other, like-more, values-same}
 use Rattle.front.specs.Front as front
-use Rattle.labels.specs.Labels.{conjugates}
-use Rattle.admission.specs.declared.state.Receiver.{Receiver}
-use Rattle.admission.specs.Admitted.{admittedOf}
-use Rattle.admission.specs.Fits.{FrontFits, fits-from}
+use Rattle.oscillator.specs.Oscillator.{conjugatedOf}
+use Rattle.receiver_state.specs.declared.state.Receiver.{Receiver}
+use Rattle.receiver_state.specs.Admitted.{admittedOf}
+use Rattle.front.specs.Admitted.{Admitted as FrontAdmitted}
+use Rattle.receiver_state.specs.Fits.{fits-from}
 use Rattle.samples.specs.Samples.{countOf}
 use Rattle.samples.specs.Run.{frontAt}
 use Rattle.receiver.specs.Block.{startOf}
@@ -87,7 +88,7 @@ ring-call r c k (suc n) l =
     ∙ sym (hears r c n)
 
 -- what a call hands to its chain are the values made of its samples, in their order
-made-so-far : (r : Receiver) (c : Call) (n : ℕ) → frontAt (conjugates (r .chain .profile)) (c .table) (c .samples) (startOf r (c .dibits) (c .reliabilities)) n .values ≡ flatten (upto (madeAt r c) n)
+made-so-far : (r : Receiver) (c : Call) (n : ℕ) → frontAt (conjugatedOf (r .chain .profile)) (c .table) (c .samples) (startOf r (c .dibits) (c .reliabilities)) n .values ≡ flatten (upto (madeAt r c) n)
 unfolding upto
 made-so-far r c zero = unfold front.frontOf turns flatten in refl
 made-so-far r c (suc n) = makes r c n ∙ ap (λ (l : List Complex32). l ++ madeAt r c n) (made-so-far r c n) ∙ sym (flatten-more (upto (madeAt r c) n) (madeAt r c n))
@@ -226,13 +227,13 @@ row-quiet d s k (z ∷ zs) (suc n) l e = row-quiet d (steppedOf s z .decimator) 
 
 pub given-length : (r : Receiver) (cs : List Call) → length (givenOf r cs) ≡ length (takenOf r cs)
 given-length r cs =
-    let zs = mixedRow (conjugates (r .chain .profile)) (r .front .oscillator) (takenOf r cs) in
-    ap length (given-is r cs) ∙ outputs-length (r .front .decimator) zs ∙ mixed-length (conjugates (r .chain .profile)) (r .front .oscillator) (takenOf r cs)
+    let zs = mixedRow (conjugatedOf (r .chain .profile)) (r .front .oscillator) (takenOf r cs) in
+    ap length (given-is r cs) ∙ outputs-length (r .front .decimator) zs ∙ mixed-length (conjugatedOf (r .chain .profile)) (r .front .oscillator) (takenOf r cs)
 
 pub given-paced : (d : ℕ) (r : Receiver) (cs : List Call) → Counting d (r .front .decimator) → Paced d (r .front .decimator .counter) (givenOf r cs)
 given-paced d r cs k =
     let s = r .front .decimator in
-    let zs = mixedRow (conjugates (r .chain .profile)) (r .front .oscillator) (takenOf r cs) in
+    let zs = mixedRow (conjugatedOf (r .chain .profile)) (r .front .oscillator) (takenOf r cs) in
     let e = outputs-length s zs in
     subst (Paced d (s .counter)) (sym (given-is r cs)) (record { sounds = λ n l f. row-sounds d s k zs n (omega arith) f; quiet = λ n l f. row-quiet d s k zs n (omega arith) f })
 
@@ -332,7 +333,7 @@ module _ (r q : Receiver) (cs es : List Call) (n lead : ℕ) (l : n < length (ta
   abbrev since : ℕ
   since = r .front .decimator .counter
 
-  pub fits : FrontFits (r .front)
+  pub fits : FrontAdmitted (r .front)
   fits = fits-from (r .total) (r .front) (r .chain) (r .parents) (taken-admitted r cs (omega arith)) .front-fits
 
   -- what they make of sample n is the same where the outputs of the latest c are
@@ -342,11 +343,11 @@ module _ (r q : Receiver) (cs es : List Call) (n lead : ℕ) (l : n < length (ta
   made-alike start full same table =
       let a = given-length r cs in
       let b = given-length q es in
-      let early = fits .early in
-      let low = fits .ring .arm-low in
+      let early = fits .decimator .counter-in in
+      let low = fits .resampler .arm-low in
       made-at r cs n l
       ∙ ap (λ (t : List Float). resampleValues t (ringAfter (ringIn r) (givenOf r cs) n) (getD (givenOf r cs) n Nothing)) table
-      ∙ heard-at d since lead (fits .some) (givenOf r cs) (givenOf q es) (given-paced d r cs (record { by = refl; early = early }))
+      ∙ heard-at d since lead (fits .decimator .decimation-low) (givenOf r cs) (givenOf q es) (given-paced d r cs (record { by = refl; early = early }))
       (subst (λ (k : ℕ). Paced d k (givenOf q es)) (sym counter) (given-paced d q es (record { by = sym decimation; early = omega arith })))
       (ringIn r) (ringIn q) start n (omega arith) (omega arith) (omega arith) full same (getD (tablesOf q es) n [])
       ∙ sym (made-at q es n m)

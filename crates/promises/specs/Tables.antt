@@ -19,13 +19,13 @@ use Rattle.resampler.specs.Design.{tableOf, writtenOf}
 use Rattle.resampler.specs.Admitted.{AdmittedRate}
 use Rattle.signal.specs.Signal as signal
 use Rattle.signal.specs.Laws.{length-parts}
-use Rattle.admission.specs.declared.state.Receiver.{Receiver}
-use Rattle.admission.specs.State.{zeroReceiver, freshFront, freshReceiver}
+use Rattle.receiver_state.specs.declared.state.Receiver.{Receiver}
+use Rattle.receiver_state.specs.State.{zeroReceiver, freshFront, freshReceiver}
 use Rattle.receiver.specs.Setup.{rateRefused, offsetRefused, tableRefused, setupOf}
 use Rattle.receiver.specs.Reading.{readingOf}
-use Rattle.admission.specs.Admitted.{admittedOf}
+use Rattle.receiver_state.specs.Admitted.{admittedOf}
 use Rattle.receiver.specs.Ways.{rate-admitted}
-use Rattle.admission.specs.Laws.{zero-refused}
+use Rattle.receiver_state.specs.Laws.{zero-refused}
 
 -- as it was but for the first n places
 pub record OnlyFirst {A : Type 0} (n : ℕ) (before after : List A) : Type 0 where

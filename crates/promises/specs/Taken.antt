@@ -7,11 +7,10 @@ use lib.Ieee.{Float}
 use Rattle.laws.specs.Places.{upto}
 use Rattle.complex.specs.declared.Complex32.{Complex32}
 use Rattle.oscillator.specs.declared.Oscillator.{Oscillator}
-use Rattle.oscillator.specs.Oscillator.{turnedOf, mixedOf}
+use Rattle.oscillator.specs.Oscillator.{conjugatedOf, turnedOf, mixedOf}
 use Rattle.decimator.specs.declared.Output.{Output}
 use Rattle.front.specs.Front as front
-use Rattle.labels.specs.Labels.{conjugates}
-use Rattle.admission.specs.declared.state.Receiver.{Receiver}
+use Rattle.receiver_state.specs.declared.state.Receiver.{Receiver}
 use Rattle.samples.specs.Samples.{countOf}
 use Rattle.samples.specs.Run.{frontAt}
 use Rattle.receiver.specs.Block.{Outcome, startOf, blockOf}
@@ -37,10 +36,10 @@ takenOf r (c ∷ cs) = takenWhere (eqb (answeredOf r c .number) 0) c ++ takenOf 
 
 -- the front before sample k of a call, and what its decimator gives the resampler for that sample
 abbrev pub rungBefore : Receiver → Call → ℕ → front.Rung
-rungBefore r c k = frontAt (conjugates (r .chain .profile)) (c .table) (c .samples) (startOf r (c .dibits) (c .reliabilities)) k .rung
+rungBefore r c k = frontAt (conjugatedOf (r .chain .profile)) (c .table) (c .samples) (startOf r (c .dibits) (c .reliabilities)) k .rung
 
 abbrev pub givenAt : Receiver → Call → ℕ → Output
-givenAt r c k = front.stepOf (conjugates (r .chain .profile)) (rungBefore r c k .place .oscillator) (rungBefore r c k .place .decimator) (front.sampleAt (c .samples) k) .output
+givenAt r c k = front.stepOf (conjugatedOf (r .chain .profile)) (rungBefore r c k .place .oscillator) (rungBefore r c k .place .decimator) (front.sampleAt (c .samples) k) .output
 
 -- what it gives for each sample taken
 unfoldable pub givenOf : Receiver → List Call → List Output

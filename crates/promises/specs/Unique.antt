@@ -5,11 +5,11 @@ use mathlib.Core.List.{List}
 use Prim.Native.Nat.{ℕ}
 use lib.IntN.{ℤ}
 use lib.Ieee.{Float}
-use Rattle.admission.specs.declared.state.Receiver.{Receiver}
+use Rattle.receiver_state.specs.declared.state.Receiver.{Receiver}
 use Rattle.receiver.specs.declared.setup.Setup.{Setup}
 use Rattle.receiver.specs.declared.block.Block.{Block}
 use Rattle.receiver.specs.declared.reading.Points.{Points}
-use Rattle.admission.specs.Laws.{number-tells}
+use Rattle.receiver_state.specs.Laws.{number-tells}
 use Rattle.receiver.specs.Setup.{SetUp, setupNow, setupOf}
 use Rattle.receiver.specs.Block.{Outcome, outcomeNow, blockOf}
 use Rattle.receiver.specs.Reading.{Reading, pointsNow, readingOf}

@@ -16,8 +16,8 @@ use Rattle.complex.specs.Complex.{zeroPair}
 use Rattle.decimator.specs.declared.Output.the-variants.{Nothing, Value}
 use Rattle.resampler.specs.Dimensions.{sizedOf}
 use Rattle.front.specs.Front as front
-use Rattle.admission.specs.declared.state.Receiver.{Receiver}
-use Rattle.admission.specs.State.{zero64, zero32, zeroes, freshReceiver}
+use Rattle.receiver_state.specs.declared.state.Receiver.{Receiver}
+use Rattle.receiver_state.specs.State.{zero64, zero32, zeroes, freshReceiver}
 use Rattle.samples.specs.Samples.{countOf, realOf, imaginaryOf, finiteOf}
 use Rattle.receiver.specs.Setup.{setupOf}
 use Rattle.receiver.specs.Laws.{setup-admitted}

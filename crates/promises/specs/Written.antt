@@ -8,7 +8,7 @@ use lib.Dec.{eqb}
 use lib.ListN.{length, drop, length-append, length-drop}
 use lib.Seq.{drop-at}
 use lib.Ieee.{Float}
-use Rattle.admission.specs.declared.state.Receiver.{Receiver}
+use Rattle.receiver_state.specs.declared.state.Receiver.{Receiver}
 use Rattle.receiver.specs.Block.{Judged, judgedOf, Outcome, acceptedOf, refusedOf, blockBy, blockOf}
 use Rattle.promises.specs.Deliveries.{deliveriesOf, dibitsIn, bytesIn, length-dibits, length-bytes, delivered-fits, accepted-is}
 

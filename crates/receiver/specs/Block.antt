@@ -5,20 +5,20 @@ use mathlib.Core.List.{List, [], _∷_}
 use lib.Dec.{eqb, ltb}
 use lib.ListN.{length}
 use lib.Ieee.{Float}
-use Rattle.labels.specs.Labels.{conjugates}
+use Rattle.oscillator.specs.Oscillator.{conjugatedOf}
 use Rattle.chain.specs.Chain.{stateOf}
 use Rattle.chain.specs.declared.ChainPlace.{ChainPlace}
 use Rattle.front.specs.declared.FrontPlace.{FrontPlace}
-use Rattle.admission.specs.declared.refusal.Verdict.{Verdict}
-use Rattle.admission.specs.declared.state.Receiver.{Receiver}
-use Rattle.admission.specs.declared.state.Snapshot.{Snapshot}
+use Rattle.receiver_state.specs.declared.refusal.Verdict.{Verdict}
+use Rattle.receiver_state.specs.declared.state.Receiver.{Receiver}
+use Rattle.receiver_state.specs.declared.state.Snapshot.{Snapshot}
 use Rattle.receiver.specs.declared.block.Checked.{Checked}
 use Rattle.receiver.specs.declared.block.Block.{Block}
-use Rattle.admission.specs.State.{zeroSnapshot, snapshotOf}
+use Rattle.receiver_state.specs.State.{zeroSnapshot, snapshotOf}
 use Rattle.samples.specs.Run.{Whole, wholeOf}
-use Rattle.admission.specs.Refusal.{numberOf, Check, firstOf}
+use Rattle.receiver_state.specs.Refusal.{numberOf, Check, firstOf}
 use Rattle.samples.specs.Samples.{countOf, finiteOf, overloadOf}
-use Rattle.admission.specs.Admitted.{stateFits}
+use Rattle.receiver_state.specs.Admitted.{stateFits}
 
 -- ---- the checks, in their order
 
@@ -123,7 +123,7 @@ endedOf total overload w = record {
 }
 
 unfoldable pub acceptedOf : Receiver → List Float → List Float → ℕ → List ℕ → List ℕ → Outcome
-acceptedOf r table xs overload ds rs = endedOf (r .total + countOf xs) overload (wholeOf (conjugates (r .chain .profile)) table xs (startOf r ds rs))
+acceptedOf r table xs overload ds rs = endedOf (r .total + countOf xs) overload (wholeOf (conjugatedOf (r .chain .profile)) table xs (startOf r ds rs))
 
 -- ---- a refused one: everything as it was
 

@@ -9,23 +9,24 @@ use lib.Dec.{T, ltb, eqb}
 use lib.ListN.{length, getD}
 use lib.Ieee.{Float, nan, inf, fin, isNan}
 use borrow.Author.Tests.{ltb-false, eqb-true}
+use Rattle.laws.specs.Branches.{not-false, or-false}
 use Rattle.laws.specs.Ring.{lt-or-ge}
 use Rattle.numbers.specs.Numbers.{isFinite}
 use Rattle.front.specs.Admitted as fit
-use Rattle.labels.specs.Labels.{conjugates}
+use Rattle.oscillator.specs.Oscillator.{conjugatedOf}
 use Rattle.chain.specs.declared.ChainPlace.{ChainPlace}
 use Rattle.front.specs.declared.FrontPlace.{FrontPlace}
-use Rattle.admission.specs.declared.refusal.Verdict.the-variants.{Accepted}
-use Rattle.admission.specs.declared.state.Receiver.{Receiver}
-use Rattle.admission.specs.declared.state.Snapshot.{Snapshot}
+use Rattle.receiver_state.specs.declared.refusal.Verdict.the-variants.{Accepted}
+use Rattle.receiver_state.specs.declared.state.Receiver.{Receiver}
+use Rattle.receiver_state.specs.declared.state.Snapshot.{Snapshot}
 use Rattle.receiver.specs.declared.block.Checked.{Checked}
 use Rattle.receiver.specs.declared.block.Block.{Block}
-use Rattle.admission.specs.Refusal.{numberOf}
-use Rattle.admission.specs.State.{snapshotOf}
+use Rattle.receiver_state.specs.Refusal.{numberOf}
+use Rattle.receiver_state.specs.State.{snapshotOf}
 use Rattle.samples.specs.Samples.{countOf, realOf, imaginaryOf, finiteOf}
 use Rattle.samples.specs.Loud.{finite-parts}
-use Rattle.admission.specs.Admitted.{stateFits, admittedOf}
-use Rattle.admission.specs.Fits.{Fits, fits-from, fits-to}
+use Rattle.receiver_state.specs.Admitted.{stateFits, admittedOf}
+use Rattle.receiver_state.specs.Fits.{Fits, fits-from, fits-to}
 use Rattle.samples.specs.Run.{Whole, wholeOf, Going, ReadyRun}
 use Rattle.receiver.specs.Block.{countRefused, roomRefused, Judged, judgedNow, judgedOf, statedOf, startOf, receiverOf, outcomeNow, endedOf, acceptedOf, refusedBlock, blockOf}
 use Rattle.receiver.specs.BlockWays.{counted}
@@ -71,19 +72,19 @@ run-asks r table xs ds rs k kr ki hr hi co pa =
     let h = f .symbols-in in
     record {
       start = refl;
-      ready = record { oscillator = record { renormalize-in = a .turns }; decimator = record { decimation-low = a .some; decimation-high = a .slow; counter-in = a .early }; resampler = a .ring };
+      ready = a;
       numbers = k .numbers;
       table-in = k .table-in;
       index-in = omega arith;
       asks = record {
         state = record {
-          recovery = record { keeper = record { head = b .head; fill = b .fill; real-size = kr; imaginary-size = ki }; clock = b .clock };
+          recovery = record { keeper = record { head = b .keeper .head; fill = b .keeper .fill; real-size = kr; imaginary-size = ki }; clock = b .clock };
           decisions = record {
             carrier = record {
-              alternation = b .alternation;
-              detector = record { skeleton = record { place = record { write = b .write; filled = b .filled; earlier = b .earlier }; table = f .table; costs-size = co; parents-size = pa }; real-size = hr; imaginary-size = hi };
+              alternation = b .carrier .alternation;
+              detector = record { skeleton = record { place = b .carrier .detector; table = f .table; costs-size = co; parents-size = pa }; real-size = hr; imaginary-size = hi };
             };
-            view = record { head = b .view-head; count = b .view-count };
+            view = b .view;
             locked = f .locked-in;
           };
         };
@@ -103,7 +104,7 @@ run-admitted conjugated r table xs ds rs w k g e =
     let m = l .most in
     let i = g .next .index in
     let d = g .next .decimation in
-    let q = f .front-fits .some in
+    let q = f .front-fits .decimator .decimation-low in
     let a = f .index-in in
     let b = f .symbols-in in
     let t = k .total-in in
@@ -115,17 +116,12 @@ run-admitted conjugated r table xs ds rs w k g e =
       index-in = omega arith;
       locked-in = v .locked;
       symbols-in = omega arith;
-      front-fits = record { some = y .decimator .decimation-low; slow = y .decimator .decimation-high; early = y .decimator .counter-in; turns = y .oscillator .renormalize-in; ring = y .resampler };
+      front-fits = y;
       chain-fits = record {
-        head = u .keeper .head;
-        fill = u .keeper .fill;
-        view-head = v .view .head;
-        view-count = v .view .count;
+        keeper = record { head = u .keeper .head; fill = u .keeper .fill };
         clock = u .clock;
-        alternation = v .carrier .alternation;
-        write = v .carrier .detector .skeleton .place .write;
-        filled = v .carrier .detector .skeleton .place .filled;
-        earlier = v .carrier .detector .skeleton .place .earlier;
+        carrier = record { alternation = v .carrier .alternation; detector = v .carrier .detector .skeleton .place };
+        view = v .view;
       };
       table = v .carrier .detector .skeleton .table;
     })
@@ -134,7 +130,7 @@ run-admitted conjugated r table xs ds rs w k g e =
 run-most : (conjugated : Bool) (r : Receiver) (table xs : List Float) (ds rs : List ℕ) (w : Whole) → Going conjugated table xs (startOf r ds rs) w → w .lent .room .written ≤ length xs
 run-most conjugated r table xs ds rs w g = let n : w .from ≤ length xs / 2 = g .high in let m = g .left .most in omega arith
 
-pub accepted-is : (c : Bool) (r : Receiver) (table xs : List Float) (overload : ℕ) (ds rs : List ℕ) (w : Whole) (s : Snapshot) → ReadyBlock r table xs (length ds) (length rs) → c ≡ conjugates (r .chain .profile)
+pub accepted-is : (c : Bool) (r : Receiver) (table xs : List Float) (overload : ℕ) (ds rs : List ℕ) (w : Whole) (s : Snapshot) → ReadyBlock r table xs (length ds) (length rs) → c ≡ conjugatedOf (r .chain .profile)
     → w ≡ wholeOf c table xs (startOf r ds rs) → Going c table xs (startOf r ds rs) w → s ≡ snapshotOf (w .lent .state .place)
     → (outcomeNow (record { verdict = Accepted; count = w .lent .room .written; overload = overload; snapshot = s; receiver = receiverOf (r .total + countOf xs) w }) (w .lent .room .dibits) (w .lent .room .reliabilities)
     ≡ acceptedOf r table xs overload ds rs)
@@ -147,10 +143,6 @@ accepted-is c r table xs overload ds rs w s k ce we g se = (
 )
 
 -- ---- the call
-or-false : (a b : Bool) → (a || b) ≡ false → (a ≡ false) × (b ≡ false)
-or-false false b h = (refl, h)
-or-false true b h = absurd (true≢false h)
-
 -- none of five checks applies
 first-none : (a b c d e : Bool) → _≡_ {A = ℕ} (cond a 7 (cond b 3 (cond c 4 (cond d 6 (cond e 5 0))))) 0 → (a ≡ false) × (b ≡ false) × (c ≡ false) × (d ≡ false) × (e ≡ false)
 first-none false false false false false h = (refl, refl, refl, refl, refl)
@@ -160,10 +152,6 @@ first-none false false true d e h = absurd (omega arith)
 first-none false false false true e h = absurd (omega arith)
 first-none false false false false true h = absurd (omega arith)
 
-not-not : (b : Bool) → not b ≡ false → b ≡ true
-not-not true h = refl
-not-not false h = absurd (true≢false h)
-
 pub ready-block : (r : Receiver) (table xs : List Float) (dibits reliabilities : ℕ) → judgedOf r xs (length table) dibits reliabilities .number ≡ 0 → ReadyBlock r table xs dibits reliabilities
 unfolding statedOf
 ready-block r table xs dibits reliabilities h =
@@ -171,10 +159,10 @@ ready-block r table xs dibits reliabilities h =
     let q = counted (r .total) (length xs) (countRefused (r .total) (length xs)) refl (z .2) in
     let p = or-false (ltb dibits (2 * countOf xs + 4)) (ltb reliabilities (4 * countOf xs + 8)) (z .3) in
     record {
-      fits = fits-from (r .total) (r .front) (r .chain) (r .parents) (not-not (admittedOf r) (z .0));
+      fits = fits-from (r .total) (r .front) (r .chain) (r .parents) (not-false (admittedOf r) (z .0));
       table-in = ltb-false (length table) (32 * r .front .resampler .arm) (z .1);
       total-in = q .total-in;
-      numbers = numbers-of xs (q .even) (not-not (finiteOf xs) (z .4));
+      numbers = numbers-of xs (q .even) (not-false (finiteOf xs) (z .4));
       dibits-in = ltb-false dibits (2 * countOf xs + 4) (p .0);
       reliabilities-in = ltb-false reliabilities (4 * countOf xs + 8) (p .1);
     }
@@ -211,7 +199,7 @@ module _ (r : Receiver) (table xs : List Float) (ds rs : List ℕ) (c : Checked)
       none z = omega arith
 
   -- an accepted block, from what the run left
-  pub taken-is : (conjugated : Bool) (w : Whole) (s : Snapshot) → b ≡ true → conjugated ≡ conjugates (r .chain .profile)
+  pub taken-is : (conjugated : Bool) (w : Whole) (s : Snapshot) → b ≡ true → conjugated ≡ conjugatedOf (r .chain .profile)
       → w ≡ wholeOf conjugated table xs (startOf r ds rs) → Going conjugated table xs (startOf r ds rs) w → s ≡ snapshotOf (w .lent .state .place)
       → (outcomeNow (record { verdict = Accepted; count = w .lent .room .written; overload = c .overload; snapshot = s; receiver = receiverOf (r .total + countOf xs) w }) (w .lent .room .dibits) (w .lent .room .reliabilities)
       ≡ blockOf r table xs ds rs)

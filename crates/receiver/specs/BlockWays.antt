@@ -9,15 +9,16 @@ use lib.Dec.{ltb, eqb}
 use lib.ListN.{length}
 use lib.Ieee.{Float}
 use borrow.Author.Tests.{lt-ltb, le-ltb, ltb-false, eqb-false}
+use Rattle.laws.specs.Branches.{or-false}
 use Rattle.laws.specs.Ring.{lt-or-ge}
-use Rattle.admission.specs.declared.refusal.Verdict.the-variants.{Accepted, Table, Count, Sample, Room, State}
+use Rattle.receiver_state.specs.declared.refusal.Verdict.the-variants.{Accepted, Table, Count, Sample, Room, State}
 use Rattle.chain.specs.declared.ChainPlace.{ChainPlace}
 use Rattle.front.specs.declared.FrontPlace.{FrontPlace}
 use Rattle.samples.specs.declared.level.Level.{Level}
 use Rattle.receiver.specs.declared.block.Checked.{Checked}
 use Rattle.samples.specs.Samples.{countOf, finiteOf, levelOf}
-use Rattle.admission.specs.Admitted.{stateFits}
-use Rattle.admission.specs.Fits.{fits-from}
+use Rattle.receiver_state.specs.Admitted.{stateFits}
+use Rattle.receiver_state.specs.Fits.{fits-from}
 use Rattle.receiver.specs.Block.{countRefused, roomRefused, refusedBy, judgedNow, laterOf, statedOf}
 
 -- ---- how many
@@ -28,10 +29,6 @@ count-many total floats l = rw (lt-ltb 65536 (floats / 2) l)
 pub count-few : (total floats : ℕ) → floats / 2 ≤ 65536 → (eqb (floats % 2) 1 || ltb (2 ^ 52) (total + floats / 2)) ≡ countRefused total floats
 unfolding countRefused
 count-few total floats l = rw (le-ltb 65536 (floats / 2) l)
-
-or-false : (a b : Bool) → (a || b) ≡ false → (a ≡ false) × (b ≡ false)
-or-false false b h = (refl, h)
-or-false true b h = absurd (true≢false h)
 
 even-of : (n : ℕ) → eqb (n % 2) 1 ≡ false → n ≡ 2 * (n / 2)
 even-of n h = elim (lt-or-ge (n % 2) 1) [
@@ -93,7 +90,7 @@ module _ (total : ℕ) (front : FrontPlace) (chain : ChainPlace) (parents : List
   pub judged-ranges : b ≡ true → (total ≤ 2 ^ 52) × (front .resampler .arm ≤ 576)
   judged-ranges t =
       let k = fits-from total front chain parents (sym be ∙ t) in
-      (k .total-in, k .front-fits .ring .arm-high)
+      (k .total-in, k .front-fits .resampler .arm-high)
 
   module _ (xs : List Float) (table dibits reliabilities : ℕ) (c : Checked) where
     pub judged-state : b ≡ false → c ≡ refusedBy State → judgedNow c ≡ statedOf total front chain parents xs table dibits reliabilities

@@ -8,8 +8,8 @@ use lib.ListN.{length}
 use lib.Ieee.{Float}
 use Rattle.resampler.specs.Dimensions.{sizedOf}
 use Rattle.resampler.specs.Ranges.{sized-in}
-use Rattle.admission.specs.Admitted.{admittedOf}
-use Rattle.admission.specs.Laws.{fresh-fits}
+use Rattle.receiver_state.specs.Admitted.{admittedOf}
+use Rattle.receiver_state.specs.Laws.{fresh-fits}
 use Rattle.receiver.specs.Setup.{rateRefused, offsetRefused, tableRefused, setupOf}
 use Rattle.receiver.specs.Ways.{rate-admitted}
 

@@ -5,10 +5,10 @@ use mathlib.Core.List.{List, [], _∷_}
 use lib.Dec.{eqb}
 use lib.Ieee.{Float, binary64, ofBits}
 use Rattle.signal.specs.Signal.{Read, viewOf, readOf}
-use Rattle.admission.specs.declared.state.Receiver.{Receiver}
+use Rattle.receiver_state.specs.declared.state.Receiver.{Receiver}
 use Rattle.receiver.specs.declared.reading.Points.{Points}
-use Rattle.admission.specs.Refusal.{numberOf, Check, firstOf}
-use Rattle.admission.specs.Admitted.{admittedOf}
+use Rattle.receiver_state.specs.Refusal.{numberOf, Check, firstOf}
+use Rattle.receiver_state.specs.Admitted.{admittedOf}
 
 abbrev pub readingChecks : Receiver → List Check
 readingChecks r = record { number = 7; applies = not (admittedOf r) } ∷ []

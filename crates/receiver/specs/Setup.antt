@@ -9,11 +9,11 @@ use lib.Ieee.{Float, binary64, ofBits, add, div, lt, le}
 use Rattle.numbers.specs.Numbers.{absOf, isFinite}
 use Rattle.resampler.specs.Dimensions.{sizedOf}
 use Rattle.resampler.specs.Design.{writtenOf}
-use Rattle.admission.specs.declared.refusal.Verdict.{Verdict}
-use Rattle.admission.specs.declared.state.Receiver.{Receiver}
+use Rattle.receiver_state.specs.declared.refusal.Verdict.{Verdict}
+use Rattle.receiver_state.specs.declared.state.Receiver.{Receiver}
 use Rattle.receiver.specs.declared.setup.Setup.{Setup}
-use Rattle.admission.specs.Refusal.{numberOf, Check, firstOf}
-use Rattle.admission.specs.State.{zeroReceiver, freshFront, freshReceiver}
+use Rattle.receiver_state.specs.Refusal.{numberOf, Check, firstOf}
+use Rattle.receiver_state.specs.State.{zeroReceiver, freshFront, freshReceiver}
 
 -- not finite, below 9,600 or above 20,000,000
 unfoldable pub rateRefused : Float → Bool

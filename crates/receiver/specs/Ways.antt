@@ -9,6 +9,7 @@ use lib.ListN.{length}
 use lib.Ieee.{Float, nan, inf, fin, binary64, ofBits, lt, le}
 use lib.Ieee.Scale.{finite}
 use borrow.Author.Tests.{lt-ltb, le-ltb}
+use Rattle.laws.specs.Branches.{or-false}
 use Rattle.laws.specs.FloatOrder.{not-lt→le}
 use Rattle.numbers.specs.Numbers.{isFinite}
 use Rattle.signal.specs.declared.Reading.{Reading as Shown}
@@ -18,20 +19,16 @@ use Rattle.resampler.specs.Dimensions.{sizedOf}
 use Rattle.resampler.specs.Design.{writtenOf}
 use Rattle.resampler.specs.Admitted.{AdmittedRate, lowestRate, highestRate}
 use Rattle.front.specs.declared.FrontPlace.{FrontPlace}
-use Rattle.admission.specs.declared.refusal.Verdict.the-variants.{Accepted, Rate, Offset, Table, State}
-use Rattle.admission.specs.declared.state.Receiver.{Receiver}
+use Rattle.receiver_state.specs.declared.refusal.Verdict.the-variants.{Accepted, Rate, Offset, Table, State}
+use Rattle.receiver_state.specs.declared.state.Receiver.{Receiver}
 use Rattle.receiver.specs.declared.setup.Setup.{Setup}
-use Rattle.admission.specs.State.{freshFront, freshReceiver}
-use Rattle.admission.specs.Admitted.{admittedOf}
-use Rattle.admission.specs.Fits.{fits-from}
+use Rattle.receiver_state.specs.State.{freshFront, freshReceiver}
+use Rattle.receiver_state.specs.Admitted.{admittedOf}
+use Rattle.receiver_state.specs.Fits.{fits-from}
 use Rattle.receiver.specs.Setup.{rateRefused, offsetRefused, setupNow, refusedReceiver, setupOf}
 use Rattle.receiver.specs.Reading.{pointsNow, readingOf}
 
 -- ---- setup
-or-false : (a b : Bool) → (a || b) ≡ false → (a ≡ false) × (b ≡ false)
-or-false false b h = (refl, h)
-or-false true b h = absurd (true≢false h)
-
 is-not : (b : Bool) → b ≡ false → T (not b)
 is-not true h = absurd (true≢false h)
 is-not false h = tt
@@ -82,7 +79,7 @@ module _ (rate offset : Float) (profile : ℤ) (table : List Float) where
 pub view-ranges : (r : Receiver) (b : Bool) → b ≡ admittedOf r → b ≡ true → (r .chain .view .head < 1024) × (r .chain .view .count ≤ 1024)
 view-ranges r b e t =
     let k = fits-from (r .total) (r .front) (r .chain) (r .parents) (sym e ∙ t) in
-    (k .chain-fits .view-head, k .chain-fits .view-count)
+    (k .chain-fits .view .head, k .chain-fits .view .count)
 
 pub reading-accepted : (r : Receiver) (output after : List Float) (p : Shown) (b : Bool) → b ≡ admittedOf r → b ≡ true
     → _≡_ {A = Read} (record { reading = p; output = after }) (readOf (viewOf (r .chain .view) (r .«view_real») (r .«view_imaginary»)) output)

@@ -1,9 +1,9 @@
 // The constellation: the last points, oldest first, and their error.
 ghost use mathlib.Core.Path.{_≡_};
 ghost use Rattle.receiver.specs.Reading.{pointsNow, readingOf};
-use admission::admitted::is_admitted;
-use admission::refusal::Verdict;
-use admission::state::Receiver;
+use receiver_state::admitted::is_admitted;
+use receiver_state::refusal::Verdict;
+use receiver_state::state::Receiver;
 
 pub struct Points {
     pub verdict: Verdict,

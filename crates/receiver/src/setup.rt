@@ -1,12 +1,12 @@
 // A fresh receiver for a rate and an offset, or a refusal.
 ghost use mathlib.Core.Path.{_≡_};
-ghost use Rattle.admission.specs.State.{freshFront};
+ghost use Rattle.receiver_state.specs.State.{freshFront};
 ghost use Rattle.receiver.specs.Setup.{rateRefused, offsetRefused, refusedReceiver, SetUp, setupNow, setupOf};
-use admission::refusal::Verdict;
-use admission::state::Receiver;
 use front::FrontPlace;
 use numbers::compare::abs;
 use numbers::compare::is_finite;
+use receiver_state::refusal::Verdict;
+use receiver_state::state::Receiver;
 use resampler::dimensions::Dimensions;
 use resampler::dimensions::sized;
 
@@ -43,7 +43,7 @@ fn front_at(rate: f64, offset: f64, d: Dimensions) -> FrontPlace
 fn refused(verdict: Verdict) -> Setup
     ensures { λ r. ⌜ r ≡ refusedReceiver verdict ⌝ }
 {
-    let receiver = admission::state::zero();
+    let receiver = receiver_state::state::zero();
     Setup { verdict, receiver }
 }
 
@@ -64,7 +64,7 @@ pub fn set_up(rate: f64, offset: f64, profile: i32, table: &mut [f32]) -> Setup
     }
     resampler::design::write_table(d.arm, d.rate, table);
     let front = front_at(rate, offset, d);
-    let receiver = admission::state::fresh(front, profile);
+    let receiver = receiver_state::state::fresh(front, profile);
     Setup {
         verdict: Verdict::Accepted,
         receiver,

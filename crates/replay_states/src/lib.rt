@@ -2,7 +2,6 @@
 // complement for signed ones, an option as 1 and its values or zeros, planes of reals before planes
 // of imaginaries. Three words stay zero: an observation that the Rust keeps and never reads.
 ghost use Prim.Native.Nat.{_+_, _<_};
-use admission::state::Receiver;
 use carrier::CarrierPlace;
 use carrier::Loop;
 use chain::ChainPlace;
@@ -21,6 +20,7 @@ use numbers::bits::pattern;
 use numbers::bits::pattern32;
 use oscillator::Oscillator;
 use peak::KeeperPlace;
+use receiver_state::state::Receiver;
 use resampler::pass::Resampler;
 use sequence::soft::Records;
 use sequence::soft::Slot;
@@ -262,7 +262,7 @@ fn take_parents(words: &[u64; 6757], parents: &mut [u8; 2048]) {
 }
 
 pub fn decoded(words: &[u64; 6757]) -> Receiver {
-    let mut r = admission::state::zero();
+    let mut r = receiver_state::state::zero();
     r.total = words[0];
     r.front = front_at(words);
     r.chain = chain_at(words);

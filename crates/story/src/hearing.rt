@@ -4,7 +4,7 @@ ghost use Prim.Native.Nat.{_≤_};
 ghost use lib.ListN.{length};
 use super::kept::told_off;
 use super::kept::told_over;
-use admission::state::Receiver;
+use receiver_state::state::Receiver;
 use replay::mixed_plane;
 
 const OUT: i32 = 1;

@@ -1,7 +1,7 @@
 // What the front still holds of the neighbour.
 use super::decimated::last_value;
 use super::decimated::unlike_fresh;
-use admission::state::Receiver;
+use receiver_state::state::Receiver;
 
 const OUT: i32 = 1;
 

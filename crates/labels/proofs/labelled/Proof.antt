@@ -1,5 +1,5 @@
--- `labelled` meets its contract: silent, conjugated and plain. Assumes nothing.
-use Rattle.labels.specs.LabelLaws.{label-conjugated, label-kept}
+-- `labelled` meets its contract: silent, rearranged and plain. Assumes nothing.
+use Rattle.labels.specs.LabelLaws.{label-rearranged, label-kept}
 use borrow.Author.Needs.{needs}
 use Rattle.labels.proofs.labelled.Statement.{statement}
 use Rattle.labels.proofs.labelled.Tie as tie
@@ -22,7 +22,7 @@ lesser-requires c κs = search needs
 returns-2 : tie.Need-returns-2
 returns-2 c =
     let answer-is = c .before .before .before .before .answer .given in
-    label-conjugated _ _ _ _ _ (answer-is .1) _ _ (c .before .before .if1 .taken) (c .before .relabelled .ensures) (c .lesser .ensures)
+    label-rearranged _ _ _ _ _ (answer-is .1) _ _ (c .before .before .if1 .taken) (c .before .relabelled .ensures) (c .lesser .ensures)
 
 returns-3 : tie.Need-returns-3
 returns-3 c = label-kept _ _ _ _ _ (c .before .before .answer .given .1) (c .if1 .left)

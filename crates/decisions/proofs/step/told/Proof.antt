@@ -13,8 +13,8 @@ counted-requires c κs = search needs
 counted-requires-2 : tie.Need-counted-requires-2
 counted-requires-2 c κs = search needs
 
-is-conjugated-requires : tie.Need-is-conjugated-requires
-is-conjugated-requires c κs = search needs
+is-rearranged-requires : tie.Need-is-rearranged-requires
+is-rearranged-requires c κs = search needs
 
 labelled-requires : tie.Need-labelled-requires
 labelled-requires c κs = search needs
@@ -24,9 +24,9 @@ returns c =
     let args = c .before .before .before .before .before .before .before .before .args in
     let counted-is = c .before .before .before .before .before .counted .ensures in
     let counted2-is = c .before .before .before .before .counted2 .ensures in
-    let h : SFits w32 (args .p .profile) = search needs in told-is _ _ _ _ _ _ _ _ (toZ-ofZ h) counted-is counted2-is (c .before .before .is-conjugated .ensures) (c .before .labelled .ensures)
+    let h : SFits w32 (args .p .profile) = search needs in told-is _ _ _ _ _ _ _ _ (toZ-ofZ h) counted-is counted2-is (c .before .before .is-rearranged .ensures) (c .before .labelled .ensures)
 
 pub told-spec : {M : Type 1} → statement M
 told-spec =
     tie.close
-    (tie.spec counted-requires counted-requires-2 is-conjugated-requires labelled-requires returns)
+    (tie.spec counted-requires counted-requires-2 is-rearranged-requires labelled-requires returns)

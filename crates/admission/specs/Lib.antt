@@ -1,7 +1,0 @@
-pub mod Refusal
-pub mod State
-pub mod Admitted
-pub mod AdmittedTests
-pub mod Fits
-pub mod Largest
-pub mod Laws

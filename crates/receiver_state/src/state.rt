@@ -1,0 +1,209 @@
+// The whole state: small places by value, and the planes that a block lends to its steps.
+ghost use mathlib.Core.Path.{_≡_};
+ghost use Rattle.receiver_state.specs.State.{freshReceiver, zeroFront, zeroChain, zeroReceiver, zeroSnapshot, flagOf, snapshotOf};
+use carrier::CarrierPlace;
+use carrier::Loop;
+use chain::ChainPlace;
+use clock::ClockPlace;
+use complex::Observation;
+use front::FrontPlace;
+use oscillator::Oscillator;
+use peak::KeeperPlace;
+use resampler::pass::Resampler;
+use sequence::soft::Records;
+use sequence::soft::Slot;
+use sequence::soft::Soft;
+use sequence::step::DetectorPlace;
+use sequence::walk::Previous;
+use signal::ViewPlace;
+
+// Total is how many samples were taken. The planes: the resampler's ring, the peak keeper's, the
+// clock's, the equalizer's weights, the detector's channels, costs and parents, the view's ring.
+pub struct Receiver {
+    pub total: u64,
+    pub front: FrontPlace,
+    pub chain: ChainPlace,
+    pub records: Records,
+    pub ring_real: [f32; 592],
+    pub ring_imaginary: [f32; 592],
+    pub keeper_real: [f32; 64],
+    pub keeper_imaginary: [f32; 64],
+    pub clock_real: [f32; 256],
+    pub clock_imaginary: [f32; 256],
+    pub weight_real: [f32; 21],
+    pub weight_imaginary: [f32; 21],
+    pub channel_real: [f32; 256],
+    pub channel_imaginary: [f32; 256],
+    pub costs: [f32; 64],
+    pub parents: [u8; 2048],
+    pub view_real: [f32; 1024],
+    pub view_imaginary: [f32; 1024],
+}
+
+// Dibits delivered since setup and those of them under lock, the carrier's smoothed error, its
+// frequency in hertz, and 1 if it is locked now.
+pub struct Snapshot {
+    pub symbols: u64,
+    pub locked_symbols: u64,
+    pub carrier_error: f64,
+    pub frequency_offset_hz: f64,
+    pub carrier_locked: u32,
+    pub reserved: u32,
+}
+
+fn zero_front() -> FrontPlace
+    ensures { λ r. ⌜ r ≡ zeroFront ⌝ }
+{
+    FrontPlace {
+        oscillator: Oscillator {
+            real: 0.0,
+            imaginary: 0.0,
+            step_real: 0.0,
+            step_imaginary: 0.0,
+            renormalize: 0,
+        },
+        decimator: decimator::fresh(0),
+        resampler: Resampler {
+            arm: 0,
+            half: 0,
+            step: 0.0,
+            index: 0,
+            next: 0.0,
+            write: 0,
+        },
+    }
+}
+
+fn zero_chain() -> ChainPlace
+    ensures { λ r. ⌜ r ≡ zeroChain ⌝ }
+{
+    let clock = ClockPlace {
+        start: 0,
+        count: 0,
+        position: 0,
+        warm: false,
+        phase: 0.0,
+        rate: 0.0,
+    };
+    let turn = Loop {
+        phase: 0.0,
+        frequency: 0.0,
+        alternation: 0,
+        locked: false,
+        error: 0.0,
+    };
+    let detector = DetectorPlace {
+        write: 0,
+        filled: 0,
+        previous: Previous::Unknown,
+        combined: Observation::Absent,
+        noise: 0.0,
+    };
+    ChainPlace {
+        keeper: peak::fresh(),
+        clock,
+        carrier: CarrierPlace { turn, detector },
+        view: signal::fresh(),
+        profile: 0,
+        symbols: 0,
+        locked: 0,
+    }
+}
+
+// Every number zero, every flag false, every option absent: not admitted.
+pub fn zero() -> Receiver
+    ensures { λ r. ⌜ r ≡ zeroReceiver ⌝ }
+{
+    let front = zero_front();
+    let chain = zero_chain();
+    let slot = Slot {
+        soft: Soft::Unrecorded,
+    };
+    Receiver {
+        total: 0,
+        front,
+        chain,
+        records: Records { slots: [slot; 32] },
+        ring_real: [0.0; 592],
+        ring_imaginary: [0.0; 592],
+        keeper_real: [0.0; 64],
+        keeper_imaginary: [0.0; 64],
+        clock_real: [0.0; 256],
+        clock_imaginary: [0.0; 256],
+        weight_real: [0.0; 21],
+        weight_imaginary: [0.0; 21],
+        channel_real: [0.0; 256],
+        channel_imaginary: [0.0; 256],
+        costs: [0.0; 64],
+        parents: [0; 2048],
+        view_real: [0.0; 1024],
+        view_imaginary: [0.0; 1024],
+    }
+}
+
+pub fn fresh(front: FrontPlace, profile: i32) -> Receiver
+    ensures { λ r. ⌜ r ≡ freshReceiver front profile ⌝ }
+{
+    let chain = chain::fresh(profile);
+    let records = sequence::step::fresh_records();
+    let weights = equalizer::fresh_real();
+    let channels = sequence::step::fresh_channels();
+    Receiver {
+        total: 0,
+        front,
+        chain,
+        records,
+        ring_real: [0.0; 592],
+        ring_imaginary: [0.0; 592],
+        keeper_real: [0.0; 64],
+        keeper_imaginary: [0.0; 64],
+        clock_real: [0.0; 256],
+        clock_imaginary: [0.0; 256],
+        weight_real: weights,
+        weight_imaginary: [0.0; 21],
+        channel_real: channels,
+        channel_imaginary: [0.0; 256],
+        costs: [0.0; 64],
+        parents: [0; 2048],
+        view_real: [0.0; 1024],
+        view_imaginary: [0.0; 1024],
+    }
+}
+
+pub fn zero_snapshot() -> Snapshot
+    ensures { λ r. ⌜ r ≡ zeroSnapshot ⌝ }
+{
+    Snapshot {
+        symbols: 0,
+        locked_symbols: 0,
+        carrier_error: 0.0,
+        frequency_offset_hz: 0.0,
+        carrier_locked: 0,
+        reserved: 0,
+    }
+}
+
+fn flag(b: bool) -> u32
+    ensures { λ r. ⌜ r ≡ flagOf b ⌝ }
+{
+    if b { 1 } else { 0 }
+}
+
+// 2 pi.
+const TURN: f64 = 6.283185307179586;
+
+// 4,800 symbols a second turn radians a symbol into hertz.
+pub fn snapshot_of(chain: ChainPlace) -> Snapshot
+    ensures { λ r. ⌜ r ≡ snapshotOf chain ⌝ }
+{
+    let carrier = chain.carrier;
+    let turn = carrier.turn;
+    Snapshot {
+        symbols: chain.symbols,
+        locked_symbols: chain.locked,
+        carrier_error: turn.error,
+        frequency_offset_hz: turn.frequency * 4800.0 / TURN,
+        carrier_locked: flag(turn.locked),
+        reserved: 0,
+    }
+}
