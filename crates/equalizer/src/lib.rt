@@ -3,7 +3,8 @@
 // window, dr and di those of its derivatives.
 ghost use mathlib.Core.Path.{_≡_};
 ghost use Rattle.equalizer.specs.Lends.{reads, leaves};
-ghost use Rattle.equalizer.specs.Equalizer.{Step, freshReal, freshImaginary, tappedOf, tapSumsOf, adaptedOf, normOf, scaledBy, limitedOf, stepOf, learnsOf, updatedOf, timingErrorOf, equalizedOf};
+ghost use Rattle.equalizer.specs.Equalizer.{Step, freshReal, freshImaginary, tappedOf, tapSumsOf};
+ghost use Rattle.equalizer.specs.Equalizer.{adaptedOf, normOf, scaledBy, limitedOf, stepOf, learnsOf, updatedOf, timingErrorOf, equalizedOf};
 use complex::Complex32;
 use numbers::compare::clamp32;
 use numbers::compare::is_finite32;
