@@ -34,21 +34,31 @@ lowestRate = ofBits binary64 0x40c2_c000_0000_0000  -- 9600
 abbrev pub highestRate : Float
 highestRate = ofBits binary64 0x4173_12d0_0000_0000  -- 20000000
 
+-- values a second after decimation
+abbrev pub lowestDecimated : Float
+lowestDecimated = fin false 75 (pos 7)  -- 9600
+
+abbrev pub highestDecimated : Float
+highestDecimated = fin false 375 (pos 10)  -- 384000
+
 -- samples a second that setup admits
 pub record AdmittedRate (rate : Float) : Type 0 where
   pub range : In lowestRate highestRate rate
 
--- what every admitted rate gives: 9,600 to 384,000 values a second after decimation
+-- what every admitted rate gives
 pub record Sized (s : Dimensions) : Type 0 where
   pub decimation-low : 1 ≤ s .decimation
   pub decimation-high : s .decimation ≤ 78
   pub arm-low : 14 ≤ s .arm
   pub arm-high : s .arm ≤ 576
-  pub rate-in : In (fin false 75 (pos 7)) (fin false 375 (pos 10)) (s .rate)
+  pub rate-in : In lowestDecimated highestDecimated (s .rate)
 
 -- what the code rounds to a whole number: 0 to 1,024, of either sign of zero
+abbrev pub mostCount : Float
+mostCount = fin false 1 (pos 10)  -- 1024
+
 pub record Countable (x : Float) : Type 0 where
-  pub range : In f0 (fin false 1 (pos 10)) x
+  pub range : In f0 mostCount x
 
 -- ---- a resampler
 

@@ -29,11 +29,10 @@ use Rattle.laws.specs.FloatFractions.{AtMost}
 use Rattle.resampler.specs.declared.pass.Resampler.{Resampler}
 use Rattle.resampler.specs.declared.pass.Place.{Place}
 use Rattle.resampler.specs.declared.pass.Delivery.{Delivery}
-use Rattle.resampler.specs.declared.pass.Passed.{Passed}
 use Rattle.resampler.specs.Pass.{placedOf, waitingOf, filteredOf, startOf, emittedOf, isDone, passTurn, deliveredOf, pushedOf, passedOf, Sampled, resampledOf, sizesOk, rangesOk, admittedOf}
 use Rattle.resampler.specs.Outputs.{position, Sound, two-on, at-most-two, sound-next, within-600, no-minus}
 use Rattle.resampler.specs.Ticks.{placed-is}
-use Rattle.resampler.specs.Admitted.{f0, half, twenty, far, back, Admitted, Dimensioned, Near, PassKeeps}
+use Rattle.resampler.specs.Admitted.{f0, half, twenty, far, back, Admitted, Dimensioned, PassKeeps}
 
 -- ---- x is at most the whole number n
 int-value : (n : ℕ) → n ≤ 2 ^ 53 → HasValue (ofInt binary64 (pos n)) false n 1

@@ -3,6 +3,7 @@ pub mod Design
 pub mod Pass
 pub mod Admitted
 pub mod Lends
+pub mod Loops
 pub mod Cases
 pub mod Ranges
 pub mod AdmittedLaws

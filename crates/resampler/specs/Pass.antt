@@ -11,14 +11,11 @@ use Rattle.laws.specs.Ring.{latest}
 use Rattle.numbers.specs.Numbers.{wholeOf, away, downward}
 use Rattle.complex.specs.Complex.{zeroPair}
 use Rattle.complex.specs.declared.Complex32.{Complex32}
+use Rattle.resampler.specs.Design.{arms64}
 use Rattle.resampler.specs.declared.pass.Resampler.{Resampler}
 use Rattle.resampler.specs.declared.pass.Place.{Place}
 use Rattle.resampler.specs.declared.pass.Delivery.{Delivery}
 use Rattle.resampler.specs.declared.pass.Passed.{Passed}
-
--- the arms of the table
-abbrev pub arms : Float
-arms = ofBits binary64 0x4040_0000_0000_0000  -- 32
 
 -- ---- where an output lies
 
@@ -26,7 +23,7 @@ arms = ofBits binary64 0x4040_0000_0000_0000  -- 32
 unfoldable pub placedOf : Float → Place
 placedOf x =
     let position = toUnsigned 64 (wholeOf downward binary64 x) in
-    let phase = toUnsigned 64 (wholeOf away binary64 (mul binary64 (sub binary64 x (ofInt binary64 (pos position))) arms)) in
+    let phase = toUnsigned 64 (wholeOf away binary64 (mul binary64 (sub binary64 x (ofInt binary64 (pos position))) arms64)) in
     cond (eqb phase 32) (record { position = position + 1; phase = 0 }) (record { position = position; phase = phase })
 
 -- an output there needs a value that is not yet in

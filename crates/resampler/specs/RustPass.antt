@@ -7,13 +7,14 @@ use lib.Dec.{eqb}
 use lib.IntN.{ℤ, pos, negsuc, _+ℤ_, _-ℤ_}
 use lib.ListN.{length, getD, set}
 use lib.Signed.{ltZ}
-use lib.Ieee.{Float, nan, binary32, binary64, ofBits, ofInt, toSigned, toUnsigned, add, sub, mul}
+use lib.Ieee.{Float, nan, binary32, binary64, ofInt, toSigned, toUnsigned, add, sub, mul}
 use Rattle.laws.specs.Turns.{until}
 use Rattle.numbers.specs.Numbers.{wholeOf, away, downward}
 use Rattle.complex.specs.Complex.{zeroPair}
 use Rattle.complex.specs.declared.Complex32.{Complex32}
 use Rattle.resampler.specs.declared.pass.Resampler.{Resampler}
-use Rattle.resampler.specs.Pass.{arms, armAt, pushedOf}
+use Rattle.resampler.specs.Pass.{armAt, pushedOf}
+use Rattle.resampler.specs.Design.{arms64}
 
 -- ---- where an output lies: a signed position, and the phase of its arm
 pub record Spot : Type 0 where
@@ -23,7 +24,7 @@ pub record Spot : Type 0 where
 -- with the floor as it is cast to i64, and the phase as it is cast to usize
 abbrev pub spotFrom : Float → ℤ → Spot
 spotFrom x position =
-    let phase = toUnsigned 64 (wholeOf away binary64 (mul binary64 (sub binary64 x (ofInt binary64 position)) arms)) in
+    let phase = toUnsigned 64 (wholeOf away binary64 (mul binary64 (sub binary64 x (ofInt binary64 position)) arms64)) in
     cond (eqb phase 32) (record { position = position +ℤ pos 1; phase = 0 }) (record { position = position; phase = phase })
 
 unfoldable pub spotOf : Float → Spot

@@ -12,11 +12,8 @@ use lib.Ieee.{Float, nan, binary32, binary64, ofBits, add}
 use Rattle.laws.specs.Turns.{turns, turns-more, turns-step}
 use Rattle.laws.specs.Places.{upto, upto-same, length-upto, turns-length, turns-keep, turns-at}
 use Rattle.numbers.specs.Numbers.{convert}
+use Rattle.resampler.specs.Loops.{tapPlaceOf, rawTurn, rawOf, dividedOf, Raw, bothTurn, startRaw, rawFrom}
 use Rattle.resampler.specs.Design.{omegaOf, rawTapOf, tapSumTurn, tapSum, overSum, tapOf, tapAt, tableOf, writtenOf}
-
--- where tap i stands: in arm i % 32, from its end
-abbrev pub tapPlaceOf : ℕ → ℕ → ℕ
-tapPlaceOf c i = i % 32 * c + (c - 1 - i / 32)
 
 module _ (c : ℕ) (C : 0 < c) where
   -- a place below 32 c is in one of 32 arms
@@ -63,12 +60,6 @@ turns-map g d (suc n) l h =
     ∙ sym (append-assoc p (g (getD l n d) ∷ []) (drop (suc n) l))
 
 -- ---- the taps before the division
-abbrev pub rawTurn : Float → ℕ → ℕ → List Float → List Float
-rawTurn ω c i l = set l (tapPlaceOf c i) (rawTapOf ω (32 * c) i)
-
-unfoldable pub rawOf : Float → ℕ → List Float → List Float
-rawOf ω c table = turns (rawTurn ω c) (32 * c) table
-
 module _ (ω : Float) (c : ℕ) (C : 0 < c) (table : List Float) (room : 32 * c ≤ length table) where
   raw-length : length (rawOf ω c table) ≡ length table
   unfolding rawOf
@@ -96,12 +87,6 @@ module _ (ω : Float) (c : ℕ) (C : 0 < c) (table : List Float) (room : 32 * c 
       (λ i h. getD-drop (32 * c) (rawOf ω c table) i nan ∙ raw-rest (32 * c + i) (omega arith) ∙ sym (getD-drop (32 * c) table i nan))
 
 -- ---- and after it
-abbrev pub divideTurn : Float → ℕ → List Float → List Float
-divideTurn sum k m = set m k (overSum sum (getD m k nan))
-
-unfoldable pub dividedOf : Float → ℕ → List Float → List Float
-dividedOf sum n table = turns (divideTurn sum) n table
-
 -- THE LAW: the two loops write the table of the rate, and only its 32 c places
 pub written-is : (c : ℕ) → 0 < c → (rate : Float) (table : List Float) → 32 * c ≤ length table
     → dividedOf (convert binary32 (tapSum (omegaOf rate) (32 * c) (32 * c + 1))) (32 * c) (rawOf (omegaOf rate) c table) ≡ writtenOf c rate table
@@ -114,20 +99,6 @@ written-is c C rate table h =
     ∙ (λ i. upto-same (λ k. overSum s (getD raw k nan)) (λ k. overSum s (rawTapOf w (32 * c) (tapAt c k))) (32 * c) (λ k l. ap (overSum s) (raw-at w c C table h k l)) i ++ raw-drop w c C table h i)
 
 -- ---- the code's first loop: the taps and their sum at once
-pub record Raw : Type 0 where
-  pub sum : Float
-  pub table : List Float
-
-abbrev pub bothTurn : Float → ℕ → ℕ → Raw → Raw
-bothTurn ω c i r = record { sum = tapSumTurn ω (32 * c) i (r .sum); table = rawTurn ω c i (r .table) }
-
-abbrev pub startRaw : List Float → Raw
-startRaw table = record { sum = ofBits binary64 0; table = table }
-
--- all 32 c + 1 in the sum, and all but the last in the table
-unfoldable pub rawFrom : Float → ℕ → List Float → Raw
-rawFrom ω c table = record { sum = tapSum ω (32 * c) (32 * c + 1); table = rawOf ω c table }
-
 both-turns : (ω : Float) (c n : ℕ) (table : List Float) → turns (bothTurn ω c) n (startRaw table) ≡ record { sum = turns (tapSumTurn ω (32 * c)) n (ofBits binary64 0); table = turns (rawTurn ω c) n table }
 unfolding turns
 both-turns ω c zero table = refl

@@ -1,7 +1,7 @@
 -- The last c values of a ring of c + 16 stand in one straight run or in two, and the tap sum over them goes run by run. Assumes nothing.
 use mathlib.Core.Path.{_≡_, refl, sym, ap, _∙_}
 use mathlib.Core.List.{List}
-use Prim.Native.Nat.{ℕ, zero, suc, _+_, _-_, _*_, _%_, _≤_, _<_}
+use Prim.Native.Nat.{ℕ, _+_, _-_, _*_, _%_, _≤_, _<_}
 use native.Mathlib.Nat.{mod-eq-of-lt, mod-lt, add-mod-left, mul-le-mul, le-of-suc-le-suc}
 use native.Mathlib.Omega.{arith}
 use lib.ListN.{getD, drop}
@@ -13,17 +13,8 @@ use Rattle.laws.specs.Ring.{start, latest}
 use Rattle.complex.specs.Complex.{zeroPair}
 use Rattle.complex.specs.declared.Complex32.{Complex32}
 use Rattle.resampler.specs.declared.pass.Resampler.{Resampler}
+use Rattle.resampler.specs.Loops.{runTurn, runOf}
 use Rattle.resampler.specs.Pass.{armAt, sumTurn, sumOf, filteredOf}
-
--- ---- one straight run: `count` places of the planes and taps of the table, from a place of each
-abbrev pub runTurn : List Float → List Float → ℕ → List Float → ℕ → ℕ → Complex32 → Complex32
-runTurn real imaginary from table base i s = record {
-  real = add binary32 (s .real) (mul binary32 (getD real (from + i) nan) (getD table (base + i) nan));
-  imaginary = add binary32 (s .imaginary) (mul binary32 (getD imaginary (from + i) nan) (getD table (base + i) nan));
-}
-
-unfoldable pub runOf : Complex32 → List Float → List Float → ℕ → List Float → ℕ → ℕ → Complex32
-runOf s real imaginary from table base count = turns (runTurn real imaginary from table base) count s
 
 module _ (c write : ℕ) (in-ring : write < c + 16) (table real imaginary : List Float) (phase : ℕ) where
   -- the oldest of them, by the code's two cases

@@ -3,7 +3,7 @@ ghost use mathlib.Core.Path.{_≡_};
 ghost use Prim.Native.Nat.{_+_, _*_, _<_, _≤_};
 ghost use lib.ListN.{length};
 ghost use Rattle.resampler.specs.Design.{waveOf, rawTapOf, writtenOf};
-ghost use Rattle.resampler.specs.Taps.{tapPlaceOf, Raw, rawFrom, dividedOf};
+ghost use Rattle.resampler.specs.Loops.{tapPlaceOf, Raw, rawFrom, dividedOf};
 use numbers::narrow::narrow;
 use numbers::narrow::widen;
 use routines::circle::cosine;

@@ -6,7 +6,7 @@ ghost use lib.ListN.{length, set};
 ghost use Rattle.laws.specs.FloatSums.{In};
 ghost use Rattle.laws.specs.Ring.{start};
 ghost use Rattle.resampler.specs.Pass.{placedOf, waitingOf, filteredOf, emittedOf, deliveredOf, pushedOf, resampledOf, sizesOk, rangesOk, admittedOf};
-ghost use Rattle.resampler.specs.Window.{runOf};
+ghost use Rattle.resampler.specs.Loops.{runOf};
 ghost use Rattle.resampler.specs.Admitted.{f0, far, Near, Dimensioned, Admitted, PassKeeps};
 ghost use Rattle.resampler.specs.AdmittedLaws.{Passing};
 ghost use Rattle.resampler.specs.Lends.{leaves};

@@ -1,6 +1,5 @@
 -- `mirrored` meets its contract: the imaginary part is negated where the sample is conjugated, and kept where it is not. Assumes nothing.
 use Rattle.oscillator.specs.Oscillator.{mirroredOf}
-use borrow.Author.Needs.{needs}
 use Rattle.oscillator.proofs.mirrored.Statement.{statement}
 use Rattle.oscillator.proofs.mirrored.Tie as tie
 

@@ -1,6 +1,6 @@
 -- `divide` meets its contract: each of the first places is divided by the sum and multiplied by 32, once. Assumes nothing.
 use borrow.Author.Needs.{needs}
-use Rattle.resampler.specs.Taps.{divideTurn, dividedOf}
+use Rattle.resampler.specs.Loops.{divideTurn, dividedOf}
 use Rattle.laws.specs.Turns.{turns, turns-start, turns-step, turns-end}
 use lib.ListN.{length, length-set}
 use Prim.Native.Nat.{_-_, _≤_}

@@ -3,7 +3,8 @@ use borrow.Author.Needs.{needs}
 use lib.ListN.{length-set}
 use Rattle.resampler.specs.Taps.{both-next}
 use denote.Ref.{now}
-use Rattle.resampler.specs.Taps.{Raw, bothTurn, startRaw, raw-from}
+use Rattle.resampler.specs.Taps.{raw-from}
+use Rattle.resampler.specs.Loops.{Raw, bothTurn, startRaw}
 use Rattle.laws.specs.Turns.{turns, turns-start}
 use lib.ListN.{length}
 use Prim.Native.Nat.{_-_, _≤_}

@@ -1,7 +1,7 @@
 -- `summed` meets its contract: each turn adds a product to each part, in the order of the definition. Assumes nothing.
 use mathlib.Core.Path.{_≡_}
 use borrow.Author.Needs.{needs}
-use Rattle.resampler.specs.Window.{runTurn, runOf}
+use Rattle.resampler.specs.Loops.{runTurn, runOf}
 use Rattle.complex.specs.declared.Complex32.{Complex32}
 use Rattle.laws.specs.Turns.{turns, turns-start, turns-step, turns-end}
 use Prim.Native.Nat.{_-_, _≤_}
