@@ -1,4 +1,4 @@
-// Document 01's cases 11 to 15 ('Numbers to meet') through the calls: a line for each, to be read
+// The specification's cases 11 to 15 ('Numbers to meet') through the calls: a line for each, to be read
 // beside that table. What follows a colon was given by a call.
 mod detector;
 mod outputs;

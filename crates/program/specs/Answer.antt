@@ -10,7 +10,7 @@ use Rattle.receiver.specs.Block.{Outcome, blockOf}
 use Rattle.recording.specs.declared.text.Totals.{Totals}
 use Rattle.recording.specs.Decode.{floatsOf}
 use Rattle.recording.specs.Text.{Written, writtenOf, put, linesOf}
-use Rattle.program.specs.declared.answer.Answer.{Answer}
+use Rattle.program.specs.declared.answer.Taken.{Taken}
 
 -- a block's refusal or 0, its overload, the receiver after it, and its lines in the text lent
 pub record Told : Type 0 where
@@ -19,7 +19,7 @@ pub record Told : Type 0 where
   pub receiver : Receiver
   pub lines : Written
 
-abbrev pub toldNow : Answer → List ℕ → Told
+abbrev pub toldNow : Taken → List ℕ → Told
 toldNow a text = record { number = numberOf (a .verdict); overload = a .overload; receiver = a .receiver; lines = writtenOf (a .end) text }
 
 -- a line for each dibit, from the text's start on

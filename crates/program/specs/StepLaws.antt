@@ -16,7 +16,7 @@ use Rattle.receiver_state.specs.Refusal.{numberOf}
 use Rattle.receiver.specs.Setup.{SetUp, setupNow, setupOf}
 use Rattle.recording.specs.Decode.{wordAt}
 use Rattle.recording.specs.Text.{Written, writtenOf, put, closingOf, refusedOf}
-use Rattle.program.specs.declared.answer.Answer.{Answer}
+use Rattle.program.specs.declared.answer.Taken.{Taken}
 use Rattle.program.specs.declared.step.Stage.{Stage}
 use Rattle.program.specs.declared.step.Stage.the-variants.{Head, Settings, Count, Samples, End, Done}
 use Rattle.program.specs.declared.step.Program.{Program}
@@ -125,7 +125,7 @@ module _ (left : ℕ) (r : Receiver) (overload : ℕ) (bytes : List ℕ) (table 
   unfolding samplesOf
   samples-cut x f h = cond-no (eqb (length bytes) (8 * nextOf left)) _ _ x (sym whole-is ∙ f) h
 
-  module _ (t : b ≡ true) (a : Answer) (after : List ℕ) (ae : toldNow a after ≡ toldOf r table bytes n text) where
+  module _ (t : b ≡ true) (a : Taken) (after : List ℕ) (ae : toldNow a after ≡ toldOf r table bytes n text) where
     ran : (x : Ran) → x ≡ blockRan left (toldNow a after) overload → x ≡ samplesOf left r overload bytes table text
     unfolding samplesOf
     ran x h =

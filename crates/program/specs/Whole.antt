@@ -1,4 +1,4 @@
--- The whole program: all that it writes for all that it is given, piece by piece as its stages wait for bytes; and document 01's example, word for word. Assumes nothing.
+-- The whole program: all that it writes for all that it is given, piece by piece as its stages wait for bytes; and the specification's example, word for word. Assumes nothing.
 use mathlib.Core.Path.{_≡_, refl, ap, _∙_}
 use mathlib.Core.Bool.{true, false, cond}
 use mathlib.Core.List.{List, [], _∷_, _++_, append-nil}

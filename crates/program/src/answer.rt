@@ -13,7 +13,7 @@ use receiver_state::state::snapshot_of;
 use recording::text::Totals;
 
 // The verdict on a block, its overload, the receiver after it, and where its lines end.
-pub struct Answer {
+pub struct Taken {
     pub verdict: Verdict,
     pub overload: u32,
     pub receiver: Receiver,
@@ -22,7 +22,7 @@ pub struct Answer {
 
 // At most 1,024 samples of 8 bytes; at most two dibits for each, in lines of at most 12 bytes, from the
 // text's start on.
-pub fn answered(r: Receiver, table: &[f32], bytes: &[u8], samples: usize, text: &mut [u8]) -> Answer
+pub fn answered(r: Receiver, table: &[f32], bytes: &[u8], samples: usize, text: &mut [u8]) -> Taken
     requires { ⌜ samples ≤ 1024 ⌝ }
     requires { ⌜ 8 * samples ≤ length (now bytes) ⌝ }
     requires { ⌜ 24 * samples ≤ length (now text) ⌝ }
@@ -40,7 +40,7 @@ pub fn answered(r: Receiver, table: &[f32], bytes: &[u8], samples: usize, text: 
     let end = recording::text::lines(&dibits, &reliabilities, b.count, text, 0);
     let verdict = b.verdict;
     let receiver = b.receiver;
-    Answer {
+    Taken {
         verdict,
         overload: b.overload,
         receiver,

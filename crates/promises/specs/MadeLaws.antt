@@ -149,7 +149,8 @@ made-at r (c ∷ cs) n l = elim (answered r c) [
   | inr t ↦
       let after = answeredOf r c .receiver in
       let k = countOf (c .samples) in
-      subst (λ (y : Bool). getD (cond y (upto (madeAt r c) k) [] ++ madeOf after cs) n [] ≡ resampleValues (getD (cond y (upto (λ (i : ℕ). c .table) k) [] ++ tablesOf after cs) n []) (ringAfter (ringIn r) (cond y (upto (givenAt r c) k) [] ++ givenOf after cs) n) (getD (cond y (upto (givenAt r c) k) [] ++ givenOf after cs) n Nothing)) (sym (t .refused))
+      subst (λ (y : Bool). getD (cond y (upto (madeAt r c) k) [] ++ madeOf after cs) n [] ≡ resampleValues (getD (cond y (upto (λ (i : ℕ). c .table) k) [] ++ tablesOf after cs) n [])
+      (ringAfter (ringIn r) (cond y (upto (givenAt r c) k) [] ++ givenOf after cs) n) (getD (cond y (upto (givenAt r c) k) [] ++ givenOf after cs) n Nothing)) (sym (t .refused))
       (made-at after cs n (subst (λ (y : Bool). n < length (takenWhere y c ++ takenOf after cs)) (t .refused) l)
       ∙ ap (λ (u : Receiver). resampleValues (getD (tablesOf after cs) n []) (ringAfter (ringIn u) (givenOf after cs) n) (getD (givenOf after cs) n Nothing)) (t .receiver))
 ]

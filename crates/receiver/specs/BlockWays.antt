@@ -16,7 +16,7 @@ use Rattle.chain.specs.declared.ChainPlace.{ChainPlace}
 use Rattle.front.specs.declared.FrontPlace.{FrontPlace}
 use Rattle.samples.specs.declared.level.Level.{Level}
 use Rattle.receiver.specs.declared.block.Checked.{Checked}
-use Rattle.samples.specs.Samples.{countOf, finiteOf, levelOf}
+use Rattle.samples.specs.Samples.{countOf, finiteOf, measuredOf}
 use Rattle.receiver_state.specs.Admitted.{stateFits}
 use Rattle.receiver_state.specs.Fits.{fits-from}
 use Rattle.receiver.specs.Block.{countRefused, roomRefused, refusedBy, judgedNow, laterOf, statedOf}
@@ -68,9 +68,9 @@ module _ (total arm : ℕ) (xs : List Float) (table dibits reliabilities : ℕ) 
       unfolding laterOf
       later-room c t e = rw (le-ltb table (32 * arm) roomy, ← ae, af, ← be, t, e)
 
-      module _ (l : Level) (bf : b ≡ false) (le : l ≡ levelOf xs) where
+      module _ (l : Level) (bf : b ≡ false) (le : l ≡ measuredOf xs) where
         pub later-accepted : l .finite ≡ true → judgedNow (record { verdict = Accepted; overload = l .overload }) ≡ laterOf total arm xs table dibits reliabilities
-        unfolding laterOf levelOf
+        unfolding laterOf measuredOf
         later-accepted t = go (finiteOf xs) refl
           where
             go : (f : Bool) → finiteOf xs ≡ f → judgedNow (record { verdict = Accepted; overload = l .overload }) ≡ laterOf total arm xs table dibits reliabilities
@@ -78,7 +78,7 @@ module _ (total arm : ℕ) (xs : List Float) (table dibits reliabilities : ℕ) 
             go false h = let z : l .finite ≡ false = rw (le, h) in absurd (true≢false (sym t ∙ z))
 
         pub later-sample : (c : Checked) → l .finite ≡ false → c ≡ refusedBy Sample → judgedNow c ≡ laterOf total arm xs table dibits reliabilities
-        unfolding laterOf levelOf
+        unfolding laterOf measuredOf
         later-sample c t e = go (finiteOf xs) refl
           where
             go : (f : Bool) → finiteOf xs ≡ f → judgedNow c ≡ laterOf total arm xs table dibits reliabilities

@@ -18,7 +18,7 @@ use receiver_state::state::Receiver;
 use receiver_state::state::Snapshot;
 use receiver_state::state::snapshot_of;
 use receiver_state::state::zero_snapshot;
-use samples::level::heard;
+use samples::level::measured;
 use samples::run::Running;
 use samples::run::run;
 
@@ -86,7 +86,7 @@ fn checked_block(
     if room_is_refused(samples.len() / 2, dibits, reliabilities) {
         return refused_by(Verdict::Room);
     }
-    let l = heard(samples);
+    let l = measured(samples);
     if l.finite {
         return Checked {
             verdict: Verdict::Accepted,

@@ -1,4 +1,4 @@
--- Document 01's refusal numbers. Definitions only.
+-- The refusals' numbers, as docs/SPECIFICATION.md has them. Definitions only.
 use Prim.Native.Nat.{ℕ}
 use mathlib.Core.Bool.{Bool, cond}
 use mathlib.Core.List.{List, [], _∷_}

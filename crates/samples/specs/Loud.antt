@@ -14,7 +14,7 @@ use Rattle.laws.specs.Branches.{and-true}
 use Rattle.laws.specs.Ring.{lt-or-ge}
 use Rattle.numbers.specs.Numbers.{absOf, isFinite}
 use Rattle.samples.specs.declared.level.Level.{Level}
-use Rattle.samples.specs.Samples.{countOf, realOf, imaginaryOf, finiteOf, one, isAbove, overloadOf, levelOf}
+use Rattle.samples.specs.Samples.{countOf, realOf, imaginaryOf, finiteOf, one, isAbove, overloadOf, measuredOf}
 
 unfoldable pub quietOf : Float → Bool
 quietOf x = le (ofBits binary32 0xbf800000) x && le x one
@@ -127,18 +127,18 @@ loud-overload xs h = sums-same
     (λ k l. let p = finite-parts xs h k l in rw (quiet-below (realOf xs k) (p .0), quiet-below (imaginaryOf xs k) (p .1)) (turned (isAbove (realOf xs k)) (isAbove (imaginaryOf xs k))))
 
 -- ---- the ways out
-pub level-quiet : (xs : List Float) (c : ℕ) → c ≡ loudSamples xs → c ≡ 0 → _≡_ {A = Level} (record { finite = true; overload = 0 }) (levelOf xs)
-unfolding levelOf
+pub level-quiet : (xs : List Float) (c : ℕ) → c ≡ loudSamples xs → c ≡ 0 → _≡_ {A = Level} (record { finite = true; overload = 0 }) (measuredOf xs)
+unfolding measuredOf
 level-quiet xs c e z =
     let f = quiet-all xs (sym e ∙ z) in
     rw (f, ← loud-overload xs f, ← e, z)
 
-pub level-loud : (xs : List Float) (c : ℕ) (b : Bool) → c ≡ loudSamples xs → b ≡ finiteOf xs → b ≡ true → _≡_ {A = Level} (record { finite = true; overload = c }) (levelOf xs)
-unfolding levelOf
+pub level-loud : (xs : List Float) (c : ℕ) (b : Bool) → c ≡ loudSamples xs → b ≡ finiteOf xs → b ≡ true → _≡_ {A = Level} (record { finite = true; overload = c }) (measuredOf xs)
+unfolding measuredOf
 level-loud xs c b e f t =
     let g = sym f ∙ t in
     rw (g, ← loud-overload xs g, e)
 
-pub level-unsound : (xs : List Float) (b : Bool) → b ≡ finiteOf xs → b ≡ false → _≡_ {A = Level} (record { finite = false; overload = 0 }) (levelOf xs)
-unfolding levelOf
+pub level-unsound : (xs : List Float) (b : Bool) → b ≡ finiteOf xs → b ≡ false → _≡_ {A = Level} (record { finite = false; overload = 0 }) (measuredOf xs)
+unfolding measuredOf
 level-unsound xs b f t = rw (sym f ∙ t)

@@ -40,5 +40,5 @@ overloadTurn xs k n = n + cond (isAbove (realOf xs k) || isAbove (imaginaryOf xs
 unfoldable pub overloadOf : List Float → ℕ
 overloadOf xs = turns (overloadTurn xs) (countOf xs) 0
 
-unfoldable pub levelOf : List Float → Level
-levelOf xs = cond (finiteOf xs) (record { finite = true; overload = overloadOf xs }) (record { finite = false; overload = 0 })
+unfoldable pub measuredOf : List Float → Level
+measuredOf xs = cond (finiteOf xs) (record { finite = true; overload = overloadOf xs }) (record { finite = false; overload = 0 })

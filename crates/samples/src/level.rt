@@ -2,7 +2,7 @@
 ghost use mathlib.Core.Path.{_≡_};
 ghost use Prim.Native.Nat.{_+_, _<_, _≤_};
 ghost use lib.ListN.{length};
-ghost use Rattle.samples.specs.Samples.{stillFinite, finiteOf, levelOf};
+ghost use Rattle.samples.specs.Samples.{stillFinite, finiteOf, measuredOf};
 ghost use Rattle.samples.specs.Loud.{quietOf, louderOf, loudSamples};
 use numbers::compare::is_finite32;
 
@@ -66,9 +66,9 @@ fn all_finite(samples: &[f32]) -> bool
 }
 
 // Quiet samples are finite, so that only loud ones need a second look.
-pub fn heard(samples: &[f32]) -> Level
+pub fn measured(samples: &[f32]) -> Level
     requires { ⌜ length (now samples) ≤ 131072 ⌝ }
-    ensures { λ r. ⌜ r ≡ levelOf (now (samples .entry)) ⌝ }
+    ensures { λ r. ⌜ r ≡ measuredOf (now (samples .entry)) ⌝ }
 {
     let count = loud_samples(samples);
     if count == 0 {

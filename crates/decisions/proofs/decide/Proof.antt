@@ -26,52 +26,66 @@ loop-holds c = (omega arith, refl, refl, row-start _ _ _ _)
 
 mul-t18 : tie.Need-mul-t18 Inv-loop μ-loop
 mul-t18 c =
-    let given = c .before .before .before .before .pre in
+    let entry = c .before .before .before .before in
+    let given = entry .pre in
     search (needs, c .loop-test, given .1)
 
 element-copy-out-t21 : tie.Need-element-copy-out-t21 Inv-loop μ-loop
 element-copy-out-t21 c =
-    let given = c .before .before .before .before .pre in
+    let entry = c .before .before .before .before in
+    let given = entry .pre in
     search (needs, c .loop-test, given .1)
 
 mul-t22 : tie.Need-mul-t22 Inv-loop μ-loop
 mul-t22 c =
-    let given = c .before .before .before .before .before .pre in
+    let entry = c .before .before .before .before .before in
+    let given = entry .pre in
     search (needs, c .before .loop-test, given .1)
 
 element-copy-out-t25 : tie.Need-element-copy-out-t25 Inv-loop μ-loop
 element-copy-out-t25 c =
-    let given = c .before .before .before .before .before .pre in
+    let entry = c .before .before .before .before .before in
+    let given = entry .pre in
     search (needs, c .before .loop-test, given .1)
 
 element-copy-out-link : tie.Need-element-copy-out-link Inv-loop μ-loop
 element-copy-out-link c =
-    let given = c .before .before .before .before .before .before .pre in
+    let entry = c .before .before .before .before .before .before in
+    let given = entry .pre in
     search (needs, c .before .before .loop-test, given .1)
 
 link-requires : tie.Need-link-requires Inv-loop μ-loop
 link-requires c κs =
-    let given = c .before .before .before .before .before .before .before .before .before .before .before .before .before .before .before .pre in
-    let kept = c .before .before .before .before .before .before .before .before .before .before .before .before .loop .inv in
-    let more = c .before .before .before .before .before .before .before .before .before .before .before .loop-test in
+    let at-loop-test = c .before .before .before .before .before .before .before .before .before .before .before in
+    let turn = at-loop-test .before in
+    let entry = turn .before .before .before in
+    let given = entry .pre in
+    let kept = turn .loop .inv in
+    let more = at-loop-test .loop-test in
     row-asks _ _ _ _ _ _ _ (given .0) (kept .3) (omega (arith, more))
 
 add-i : tie.Need-add-i Inv-loop μ-loop
 add-i c =
-    let more = c .before .before .before .before .before .before .before .before .before .before .before .before .before .before .before .before .loop-test in
-    let given = c .before .before .before .before .before .before .before .before .before .before .before .before .before .before .before .before .before .before .before .before .pre in
+    let at-loop-test = c .before .before .before .before .before .before .before .before .before .before .before .before .before .before .before .before in
+    let entry = at-loop-test .before .before .before .before in
+    let more = at-loop-test .loop-test in
+    let given = entry .pre in
     record { fits = omega (arith, more, given .1) }
 
 loop-less : tie.Need-loop-less Inv-loop μ-loop
 loop-less c =
-    let more = c .before .before .before .before .before .before .before .before .before .before .before .before .before .before .before .before .loop-test in
+    let at-loop-test = c .before .before .before .before .before .before .before .before .before .before .before .before .before .before .before .before in
+    let more = at-loop-test .loop-test in
     omega (arith, more)
 
 loop-again : tie.Need-loop-again Inv-loop μ-loop
 loop-again c =
-    let more = c .before .before .before .before .before .before .before .before .before .before .before .before .before .before .before .before .loop-test in
-    let kept = c .before .before .before .before .before .before .before .before .before .before .before .before .before .before .before .before .before .loop .inv in
-    let link-is = c .before .before .before .before .link .ensures in
+    let at-link = c .before .before .before .before in
+    let at-loop-test = at-link .before .before .before .before .before .before .before .before .before .before .before .before in
+    let turn = at-loop-test .before in
+    let more = at-loop-test .loop-test in
+    let kept = turn .loop .inv in
+    let link-is = at-link .link .ensures in
     (omega (arith, more), omega (arith, c .before .before .before .dibits .given, kept .1), omega (arith, c .before .reliabilities .given, kept .2), row-step _ _ _ _ _ _ _ link-is (kept .3))
 
 same-length : tie.Need-same-length Inv-loop μ-loop
@@ -82,7 +96,8 @@ same-length-2 c = search needs
 
 returns : tie.Need-returns Inv-loop μ-loop
 returns c =
-    let given = c .before .before .before .before .pre in
+    let entry = c .before .before .before .before in
+    let given = entry .pre in
     row-end _ _ _ _ _ _ _ (given .0) (c .before .loop .inv .3) (c .before .loop .inv .0) (omega (arith, c .loop-test))
 
 pub decide-spec : {M : Type 1} → statement M

@@ -114,7 +114,42 @@ returns c = search needs
 
 run-requires : tie.Need-run-requires
 unfolding freshReal
-run-requires c κs = let q = c .before .before .before .before .before .before .before .before .before .before .before .before .before .before .before .before .before .before .before .before .before .before .before .before .before .before .before .before .before .before .before .before .before .before .before .before .before .before .before .before .before .before .before .before .before .before .before .before .before .before .before .before .before .before .before .before .before .before .before .before .before .before .pre in record { recovery = record { keeper = record { head = q .keeper-head; fill = q .keeper-fill; real-size = c .before .before .before .before .before .before .before .before .before .before .before .before .before .before .before .before .before .before .before .before .before .before .before .before .before .before .before .before .before .before .before .before .before .before .before .before .before .before .before .before .before .before .before .before .before .before .before .before .before .before .before .before .before .before .before .before .fill .ensures; imaginary-size = c .before .before .before .before .before .before .before .before .before .before .before .before .before .before .before .before .before .before .before .before .before .before .before .before .before .before .before .before .before .before .before .before .before .before .before .before .before .before .before .before .before .before .before .before .before .before .before .before .before .before .before .before .before .fill2 .ensures }; clock = admitted-facts _ (sym (c .before .before .before .before .before .before .before .before .before .before .before .before .before .before .is-admitted .ensures) ∙ not-false _ (c .before .before .before .before .before .before .before .before .before .before .before .before .before .if1 .left)) }; decisions = record { carrier = record { alternation = q .alternation; detector = record { skeleton = record { place = record { write = c .before .before .before .before .before .before .before .before .before .before .before .before .before .before .before .before .before .before .before .before .before .before .before .before .before .before .made-place .ensures .0; filled = c .before .before .before .before .before .before .before .before .before .before .before .before .before .before .before .before .before .before .before .before .before .before .before .before .before .before .made-place .ensures .1; earlier = c .before .before .before .before .before .before .before .before .before .before .before .before .before .before .before .before .before .before .before .before .before .before .before .before .before .before .made-place .ensures .2 }; table = c .before .before .before .before .before .before .before .before .before .before .before .before .before .before .before .before .before .before .before .before .before .before .before .before .before .before .before .before .before .fill-parents .ensures .0; costs-size = c .before .before .before .before .before .before .before .before .before .before .before .before .before .before .before .before .before .before .before .before .before .before .before .before .before .before .before .before .before .before .before .before .fill9 .ensures; parents-size = c .before .before .before .before .before .before .before .before .before .before .before .before .before .before .before .before .before .before .before .before .before .before .before .before .before .before .before .before .before .fill-parents .ensures .1 }; real-size = c .before .before .before .before .before .before .before .before .before .before .before .before .before .before .before .before .before .before .before .before .before .before .before .before .before .before .before .before .before .before .before .before .before .before .before .before .before .before .fill7 .ensures ∙ ap length (c .before .before .before .before .before .before .before .before .before .before .before .before .before .before .before .before .before .before .before .before .before .before .before .before .before .before .before .before .before .before .before .before .before .before .before .before .before .before .before .before .before .before .before .before .before .before .before .before .before .before .before .before .before .before .before .before .before .before .fresh-channels .ensures) ∙ length-upto _ _; imaginary-size = c .before .before .before .before .before .before .before .before .before .before .before .before .before .before .before .before .before .before .before .before .before .before .before .before .before .before .before .before .before .before .before .before .before .before .before .fill8 .ensures } }; view = record { head = q .view-head; count = q .view-count }; locked = q .locked } }
+run-requires c κs =
+    let test = c .before .before .before .before .before .before .before .before .before .before .before .before .before in
+    let at-is-admitted = test .before in
+    let at-made-place = at-is-admitted .before .before .before .before .before .before .before .before .before .before .before .before in
+    let at-fill-parents = at-made-place .before .before .before in
+    let at-fill9 = at-fill-parents .before .before .before in
+    let at-fill8 = at-fill9 .before .before .before in
+    let at-fill7 = at-fill8 .before .before .before in
+    let at-fill2 = at-fill7 .before .before .before .before .before .before .before .before .before .before .before .before .before .before .before in
+    let at-fill = at-fill2 .before .before .before in
+    let at-fresh-channels = at-fill .before .before in
+    let entry = at-fresh-channels .before .before .before .before in
+    let q = entry .pre in
+    record {
+      recovery = record {
+        keeper = record { head = q .keeper-head; fill = q .keeper-fill; real-size = at-fill .fill .ensures; imaginary-size = at-fill2 .fill2 .ensures };
+        clock = admitted-facts _ (sym (at-is-admitted .is-admitted .ensures) ∙ not-false _ (test .if1 .left));
+      };
+      decisions = record {
+        carrier = record {
+          alternation = q .alternation;
+          detector = record {
+            skeleton = record {
+              place = record { write = at-made-place .made-place .ensures .0; filled = at-made-place .made-place .ensures .1; earlier = at-made-place .made-place .ensures .2 };
+              table = at-fill-parents .fill-parents .ensures .0;
+              costs-size = at-fill9 .fill9 .ensures;
+              parents-size = at-fill-parents .fill-parents .ensures .1;
+            };
+            real-size = at-fill7 .fill7 .ensures ∙ ap length (at-fresh-channels .fresh-channels .ensures) ∙ length-upto _ _;
+            imaginary-size = at-fill8 .fill8 .ensures;
+          };
+        };
+        view = record { head = q .view-head; count = q .view-count };
+        locked = q .locked;
+      };
+    }
 
 returns-2 : tie.Need-returns-2
 returns-2 c = search needs

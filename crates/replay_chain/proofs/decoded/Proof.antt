@@ -44,10 +44,14 @@ word-requires-10 : tie.Need-word-requires-10
 word-requires-10 c κs = search needs
 
 word-requires-11 : tie.Need-word-requires-11
-word-requires-11 c κs = omega (arith, c .before .before .before .before .before .before .before .before .before .before .before .before .before .before .pre)
+word-requires-11 c κs =
+    let entry = c .before .before .before .before .before .before .before .before .before .before .before .before .before .before in
+    omega (arith, entry .pre)
 
 word-requires-12 : tie.Need-word-requires-12
-word-requires-12 c κs = omega (arith, c .before .before .before .before .before .before .before .before .before .before .before .before .before .before .before .pre)
+word-requires-12 c κs =
+    let entry = c .before .before .before .before .before .before .before .before .before .before .before .before .before .before .before in
+    omega (arith, entry .pre)
 
 high-requires : tie.Need-high-requires
 high-requires c κs = search needs
@@ -56,13 +60,18 @@ profile-requires : tie.Need-profile-requires
 profile-requires c κs = search needs
 
 word-requires-13 : tie.Need-word-requires-13
-word-requires-13 c κs = omega (arith, c .before .before .before .before .before .before .before .before .before .before .before .before .before .before .before .before .before .before .pre)
+word-requires-13 c κs =
+    let entry = c .before .before .before .before .before .before .before .before .before .before .before .before .before .before .before .before .before .before in
+    omega (arith, entry .pre)
 
 lesser-requires : tie.Need-lesser-requires
 lesser-requires c κs = search needs
 
 returns : tie.Need-returns
-returns c = record { keeper-head = c .before .before .before .before .before .before .before .before .before .before .before .before .before .before .keeper .ensures .0; keeper-fill = c .before .before .before .before .before .before .before .before .before .before .before .before .before .before .keeper .ensures .1; alternation = c .before .before .before .before .before .before .before .carrier-loop .ensures; view-head = search needs; view-count = search needs; locked = c .lesser .ensures }
+returns c =
+    let at-carrier-loop = c .before .before .before .before .before .before .before in
+    let at-keeper = at-carrier-loop .before .before .before .before .before .before .before in
+    record { keeper-head = at-keeper .keeper .ensures .0; keeper-fill = at-keeper .keeper .ensures .1; alternation = at-carrier-loop .carrier-loop .ensures; view-head = search needs; view-count = search needs; locked = c .lesser .ensures }
 
 pub decoded-spec : {M : Type 1} → statement M
 decoded-spec =

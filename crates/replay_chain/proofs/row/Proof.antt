@@ -11,13 +11,17 @@ slice-aggregate-chain-2 : tie.Need-slice-aggregate-chain-2
 slice-aggregate-chain-2 c = search needs
 
 chain-requires : tie.Need-chain-requires
-chain-requires c κs = (record { state = c .before .before .before .before .before .before .before .before .before .before .before .before .before .before .pre .0; symbols = omega (arith, c .before .before .before .before .before .before .before .before .before .before .before .before .before .before .pre .1 .0, c .before .before .before .before .before .before .before .before .before .before .before .before .before .before .pre .1 .1 .0); room = record { dibits = search (needs, c .before .before .before .before .before .before .before .before .before .before .before .before .before .before .pre .1 .1 .0, c .before .before .before .before .before .before .before .before .before .before .before .before .before .before .pre .1 .1 .1); reliabilities = search (needs, c .before .before .before .before .before .before .before .before .before .before .before .before .before .before .pre .1 .1 .0, c .before .before .before .before .before .before .before .before .before .before .before .before .before .before .pre .1 .1 .1) } }, c .before .before .before .before .before .before .before .before .before .before .before .before .before .before .pre .1 .1 .0)
+chain-requires c κs =
+    let entry = c .before .before .before .before .before .before .before .before .before .before .before .before .before .before in
+    (record { state = entry .pre .0; symbols = omega (arith, entry .pre .1 .0, entry .pre .1 .1 .0); room = record { dibits = search (needs, entry .pre .1 .1 .0, entry .pre .1 .1 .1); reliabilities = search (needs, entry .pre .1 .1 .0, entry .pre .1 .1 .1) } }, entry .pre .1 .1 .0)
 
 tell-requires : tie.Need-tell-requires
 tell-requires c κs = search needs
 
 returns : tie.Need-returns
-returns c = c .before .before .before .before .before .before .before .before .before .before .before .before .before .before .before .before .before .chain .ensures .1 .ranged
+returns c =
+    let at-chain = c .before .before .before .before .before .before .before .before .before .before .before .before .before .before .before .before .before in
+    at-chain .chain .ensures .1 .ranged
 
 pub row-spec : {M : Type 1} → statement M
 row-spec =

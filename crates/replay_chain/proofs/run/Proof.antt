@@ -7,10 +7,17 @@ use Rattle.replay_chain.proofs.run.Statement.{statement}
 use Rattle.replay_chain.proofs.run.Tie as tie
 
 abbrev Inv-loop : tie.InvT-loop
-Inv-loop rows keeper-real₀ keeper-imaginary₀ clock-real₀ clock-imaginary₀ weight-real₀ weight-imaginary₀ channel-real₀ channel-imaginary₀ costs₀ parents₀ view-real₀ view-imaginary₀ row-real₀ row-imaginary₀ p₀ records₀ left₀ keeper-real keeper-imaginary clock-real clock-imaginary weight-real weight-imaginary channel-real channel-imaginary costs parents view-real view-imaginary row-real row-imaginary p records left = Ranged (stateOf p keeper-real keeper-imaginary clock-real clock-imaginary weight-real weight-imaginary channel-real channel-imaginary costs parents view-real view-imaginary)
+Inv-loop rows keeper-real₀ keeper-imaginary₀ clock-real₀ clock-imaginary₀ weight-real₀ weight-imaginary₀ channel-real₀ channel-imaginary₀ costs₀ parents₀ view-real₀
+    view-imaginary₀ row-real₀ row-imaginary₀ p₀ records₀ left₀ keeper-real keeper-imaginary clock-real clock-imaginary weight-real weight-imaginary channel-real
+    channel-imaginary costs parents view-real view-imaginary row-real row-imaginary p records left =
+    Ranged (stateOf p keeper-real keeper-imaginary clock-real clock-imaginary weight-real weight-imaginary channel-real channel-imaginary costs parents view-real
+    view-imaginary)
 
 abbrev μ-loop : tie.MeasureT-loop
-μ-loop rows keeper-real₀ keeper-imaginary₀ clock-real₀ clock-imaginary₀ weight-real₀ weight-imaginary₀ channel-real₀ channel-imaginary₀ costs₀ parents₀ view-real₀ view-imaginary₀ row-real₀ row-imaginary₀ p₀ records₀ left₀ keeper-real keeper-imaginary clock-real clock-imaginary weight-real weight-imaginary channel-real channel-imaginary costs parents view-real view-imaginary row-real row-imaginary p records left = left
+μ-loop rows keeper-real₀ keeper-imaginary₀ clock-real₀ clock-imaginary₀ weight-real₀ weight-imaginary₀ channel-real₀ channel-imaginary₀ costs₀ parents₀ view-real₀
+    view-imaginary₀ row-real₀ row-imaginary₀ p₀ records₀ left₀ keeper-real keeper-imaginary clock-real clock-imaginary weight-real weight-imaginary channel-real
+    channel-imaginary costs parents view-real view-imaginary row-real row-imaginary p records left =
+    left
 
 loop-holds : tie.Need-loop-holds Inv-loop μ-loop
 loop-holds c = c .pre
@@ -31,16 +38,27 @@ lesser-requires-2 : tie.Need-lesser-requires-2 Inv-loop μ-loop
 lesser-requires-2 c κs = search needs
 
 read-row-requires : tie.Need-read-row-requires Inv-loop μ-loop
-read-row-requires c κs = c .before .before .before .before .lesser .ensures
+read-row-requires c κs =
+    let at-lesser = c .before .before .before .before in
+    at-lesser .lesser .ensures
 
 row-requires : tie.Need-row-requires Inv-loop μ-loop
-row-requires c κs = (c .before .before .before .before .before .before .before .before .before .before .before .before .before .before .before .before .before .before .before .before .before .before .before .before .before .loop .inv, (omega (arith, c .before .before .before .before .before .before .before .before .before .before .before .before .before .before .if1 .left), (c .before .before .before .before .before .before .before .before .before .before .before .before .before .before .before .before .before .before .before .before .before .lesser .ensures, c .before .before .before .before .before .before .before .before .before .before .before .before .before .before .before .before .before .before .before .lesser2 .ensures)))
+row-requires c κs =
+    let test = c .before .before .before .before .before .before .before .before .before .before .before .before .before .before in
+    let at-lesser2 = test .before .before .before .before .before in
+    let at-lesser = at-lesser2 .before .before in
+    let turn = at-lesser .before .before .before .before in
+    (turn .loop .inv, (omega (arith, test .if1 .left), (at-lesser .lesser .ensures, at-lesser2 .lesser2 .ensures)))
 
 sub-left : tie.Need-sub-left Inv-loop μ-loop
-sub-left c = omega (arith, c .before .before .before .before .before .before .before .before .before .before .before .before .before .before .before .before .before .before .before .before .before .before .before .before .before .before .before .loop-test)
+sub-left c =
+    let at-loop-test = c .before .before .before .before .before .before .before .before .before .before .before .before .before .before .before .before .before .before .before .before .before .before .before .before .before .before .before in
+    omega (arith, at-loop-test .loop-test)
 
 loop-less : tie.Need-loop-less Inv-loop μ-loop
-loop-less c = omega (arith, c .before .before .before .before .before .before .before .before .before .before .before .before .before .before .before .before .before .before .before .before .before .before .before .before .before .before .before .loop-test)
+loop-less c =
+    let at-loop-test = c .before .before .before .before .before .before .before .before .before .before .before .before .before .before .before .before .before .before .before .before .before .before .before .before .before .before .before in
+    omega (arith, at-loop-test .loop-test)
 
 loop-again : tie.Need-loop-again Inv-loop μ-loop
 loop-again c = c .before .before .row .ensures

@@ -51,13 +51,20 @@ slice-aggregate-turned : tie.Need-slice-aggregate-turned Inv-loop μ-loop
 slice-aggregate-turned c = search needs
 
 turned-requires : tie.Need-turned-requires Inv-loop μ-loop
-turned-requires c κs = (still-waits _ _ _ (c .before .before .before .before .before .before .loop .inv .0) (c .before .before .before .before .before .wanted .ensures) (omega (arith, c .before .before .before .before .if1 .taken)), c .before .before .before .before .before .before .loop .inv .1)
+turned-requires c κs =
+    let test = c .before .before .before .before in
+    let at-wanted = test .before in
+    let turn = at-wanted .before in
+    (still-waits _ _ _ (turn .loop .inv .0) (at-wanted .wanted .ensures) (omega (arith, test .if1 .taken)), turn .loop .inv .1)
 
 loop-less : tie.Need-loop-less Inv-loop μ-loop
 loop-less c = c .before .turned .ensures .less
 
 loop-again : tie.Need-loop-again Inv-loop μ-loop
-loop-again c = (refl, moves-fit _ _ _ _ (c .before .turned .ensures) (c .before .before .before .before .before .before .before .before .loop .inv .1), omega (arith, c .before .before .before .before .least .ensures, c .before .before .before .before .before .before .before .before .loop .inv .2), search needs)
+loop-again c =
+    let at-least = c .before .before .before .before in
+    let turn = at-least .before .before .before .before in
+    (refl, moves-fit _ _ _ _ (c .before .turned .ensures) (turn .loop .inv .1), omega (arith, at-least .least .ensures, turn .loop .inv .2), search needs)
 
 returns : tie.Need-returns Inv-loop μ-loop
 returns c = search needs

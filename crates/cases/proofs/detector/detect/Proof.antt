@@ -29,19 +29,27 @@ oldest-requires : tie.Need-oldest-requires Inv-loop μ-loop
 oldest-requires c κs = c .before .before .before .loop .inv .skeleton .place .write
 
 step-requires : tie.Need-step-requires Inv-loop μ-loop
-step-requires c κs = c .before .before .before .before .before .before .before .before .loop .inv
+step-requires c κs =
+    let turn = c .before .before .before .before .before .before .before .before in
+    turn .loop .inv
 
 stored-requires : tie.Need-stored-requires Inv-loop μ-loop
-stored-requires c κs = c .before .before .before .before .before .before .before .before .before .loop .inv .skeleton .place .write
+stored-requires c κs =
+    let turn = c .before .before .before .before .before .before .before .before .before in
+    turn .loop .inv .skeleton .place .write
 
 tallied-requires : tie.Need-tallied-requires Inv-loop μ-loop
 tallied-requires c κs = search needs
 
 sub-left : tie.Need-sub-left Inv-loop μ-loop
-sub-left c = omega (arith, c .before .before .before .before .before .before .before .before .before .before .before .loop-test)
+sub-left c =
+    let at-loop-test = c .before .before .before .before .before .before .before .before .before .before .before in
+    omega (arith, at-loop-test .loop-test)
 
 loop-less : tie.Need-loop-less Inv-loop μ-loop
-loop-less c = omega (arith, c .before .before .before .before .before .before .before .before .before .before .before .loop-test)
+loop-less c =
+    let at-loop-test = c .before .before .before .before .before .before .before .before .before .before .before in
+    omega (arith, at-loop-test .loop-test)
 
 loop-again : tie.Need-loop-again Inv-loop μ-loop
 loop-again c = c .before .before .before .step .ensures .1

@@ -14,7 +14,10 @@ fresh-requires c κs = search needs
 
 detect-requires : tie.Need-detect-requires
 unfolding freshSkeleton freshChannels
-detect-requires c κs = rw (c .before .before .before .before .fresh .ensures, c .before .before .before .before .before .fresh-channels .ensures) fresh-ranged
+detect-requires c κs =
+    let at-fresh = c .before .before .before .before in
+    let at-fresh-channels = at-fresh .before in
+    rw (at-fresh .fresh .ensures, at-fresh-channels .fresh-channels .ensures) fresh-ranged
 
 slice-aggregate-text : tie.Need-slice-aggregate-text
 slice-aggregate-text c = search needs

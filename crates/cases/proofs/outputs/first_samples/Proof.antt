@@ -28,7 +28,9 @@ fresh-requires c κs = search needs
 
 pass-requires : tie.Need-pass-requires
 unfolding freshOf
-pass-requires c κs = rw (c .before .fresh .ensures) (fresh-admitted _ (c .before .before .before .before .before .before .before .sized .ensures .1), refl)
+pass-requires c κs =
+    let at-sized = c .before .before .before .before .before .before .before in
+    rw (c .before .fresh .ensures) (fresh-admitted _ (at-sized .sized .ensures .1), refl)
 
 slice-aggregate-text-2 : tie.Need-slice-aggregate-text-2
 slice-aggregate-text-2 c = search needs

@@ -22,19 +22,28 @@ point-requires : tie.Need-point-requires Inv-loop μ-loop
 point-requires c κs = search needs
 
 resampled-requires : tie.Need-resampled-requires Inv-loop μ-loop
-resampled-requires c κs = let a = c .before .before .before .before .before .before .loop .inv .1 .arm-high in (c .before .before .before .before .before .before .loop .inv .1, (omega (arith, c .before .before .before .before .before .before .loop .inv .0), search (needs, a)))
+resampled-requires c κs =
+    let turn = c .before .before .before .before .before .before in
+    let a = turn .loop .inv .1 .arm-high in (turn .loop .inv .1, (omega (arith, turn .loop .inv .0), search (needs, a)))
 
 number-requires : tie.Need-number-requires Inv-loop μ-loop
 number-requires c κs = search needs
 
 sub-left : tie.Need-sub-left Inv-loop μ-loop
-sub-left c = omega (arith, c .before .before .before .before .before .before .before .before .loop-test)
+sub-left c =
+    let at-loop-test = c .before .before .before .before .before .before .before .before in
+    omega (arith, at-loop-test .loop-test)
 
 loop-less : tie.Need-loop-less Inv-loop μ-loop
-loop-less c = omega (arith, c .before .before .before .before .before .before .before .before .loop-test)
+loop-less c =
+    let at-loop-test = c .before .before .before .before .before .before .before .before in
+    omega (arith, at-loop-test .loop-test)
 
 loop-again : tie.Need-loop-again Inv-loop μ-loop
-loop-again c = (omega (arith, c .before .before .resampled .ensures .1 .one-more, c .before .before .before .before .before .before .before .before .loop-test, c .before .before .before .before .before .before .before .before .before .loop .inv .0), c .before .before .resampled .ensures .1 .admitted)
+loop-again c =
+    let at-loop-test = c .before .before .before .before .before .before .before .before in
+    let turn = at-loop-test .before in
+    (omega (arith, c .before .before .resampled .ensures .1 .one-more, at-loop-test .loop-test, turn .loop .inv .0), c .before .before .resampled .ensures .1 .admitted)
 
 returns : tie.Need-returns Inv-loop μ-loop
 returns c = search needs

@@ -38,15 +38,20 @@ slice-aggregate-lines-2 : tie.Need-slice-aggregate-lines-2
 slice-aggregate-lines-2 c = search needs
 
 lines-requires : tie.Need-lines-requires
-lines-requires c κs = let h : c .before .before .before .before .before .take .result .count ≤ 2 * c .before .before .before .before .before .before .before .before .before .before .before .before .before .before .before .args .samples = taken-most _ _ _ (c .before .before .before .before .before .take .ensures .1 .1) in search needs
+lines-requires c κs =
+    let at-take = c .before .before .before .before .before in
+    let entry = at-take .before .before .before .before .before .before .before .before .before .before in
+    let h : at-take .take .result .count ≤ 2 * entry .args .samples = taken-most _ _ _ (at-take .take .ensures .1 .1) in search needs
 
 same-length : tie.Need-same-length
 same-length c = search needs
 
 returns : tie.Need-returns
 returns c =
-    let same = answered-is _ _ _ _ _ _ _ (c .before .before .before .before .before .before .before .before .before .take .result) _ _ _ _ (c .before .before .before .before .before .before .before .before .before .before .before .before .before .before .floats2 .ensures) (c .before .before .before .before .before .before .before .before .before .take .ensures .0) (c .before .before .before .lines .ensures .0) in
-    (same, (told-few _ _ _ _ _ _ same, (lines-most _ _ _ (taken-most _ _ _ (c .before .before .before .before .before .before .before .before .before .take .ensures .1 .1)) (c .before .before .before .lines .ensures .1 .0), c .before .before .before .lines .ensures .1 .1)))
+    let at-take = c .before .before .before .before .before .before .before .before .before in
+    let at-floats2 = at-take .before .before .before .before .before in
+    let same = answered-is _ _ _ _ _ _ _ (at-take .take .result) _ _ _ _ (at-floats2 .floats2 .ensures) (at-take .take .ensures .0) (c .before .before .before .lines .ensures .0) in
+    (same, (told-few _ _ _ _ _ _ same, (lines-most _ _ _ (taken-most _ _ _ (at-take .take .ensures .1 .1)) (c .before .before .before .lines .ensures .1 .0), c .before .before .before .lines .ensures .1 .1)))
 
 pub answered-spec : {M : Type 1} → statement M
 answered-spec =

@@ -14,7 +14,9 @@ same-length : tie.Need-same-length
 same-length c = search needs
 
 returns : tie.Need-returns
-returns c = (closed-is _ _ (c .before .before .before .before .before .snapshot-of .result) _ _ (c .before .before .before .before .before .snapshot-of .ensures) (c .before .before .closing .ensures .0), (search needs, c .before .before .closing .ensures .1 .1))
+returns c =
+    let at-snapshot-of = c .before .before .before .before .before in
+    (closed-is _ _ (at-snapshot-of .snapshot-of .result) _ _ (at-snapshot-of .snapshot-of .ensures) (c .before .before .closing .ensures .0), (search needs, c .before .before .closing .ensures .1 .1))
 
 pub closed-spec : {M : Type 1} → statement M
 closed-spec = tie.close (tie.spec snapshot-of-requires closing-requires same-length returns)

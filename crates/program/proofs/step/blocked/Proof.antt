@@ -16,7 +16,9 @@ is-whole-requires : tie.Need-is-whole-requires
 is-whole-requires c κs = search needs
 
 answered-requires : tie.Need-answered-requires
-answered-requires c κs = (omega (arith, c .before .before .before .next-of .ensures), (whole-room _ _ _ _ (c .before .before .is-whole .ensures) (c .before .if1 .taken) (omega arith), omega (arith, c .before .before .before .next-of .ensures, c .before .before .before .before .before .before .before .pre)))
+answered-requires c κs =
+    let entry = c .before .before .before .before .before .before .before in
+    (omega (arith, c .before .before .before .next-of .ensures), (whole-room _ _ _ _ (c .before .before .is-whole .ensures) (c .before .if1 .taken) (omega arith), omega (arith, c .before .before .before .next-of .ensures, entry .pre)))
 
 is-accepted-requires : tie.Need-is-accepted-requires
 is-accepted-requires c κs = search needs
@@ -31,22 +33,50 @@ cast-t18 : tie.Need-cast-t18
 cast-t18 c = search needs
 
 add-t19 : tie.Need-add-t19
-add-t19 c = omega (arith, c .before .before .before .before .before .before .before .answered .ensures .1 .0, c .before .before .before .before .before .before .before .before .before .before .before .next-of .ensures, c .before .before .before .before .before .before .before .before .before .before .before .before .before .before .before .pre)
+add-t19 c =
+    let at-answered = c .before .before .before .before .before .before .before in
+    let at-next-of = at-answered .before .before .before .before in
+    let entry = at-next-of .before .before .before .before in
+    omega (arith, at-answered .answered .ensures .1 .0, at-next-of .next-of .ensures, entry .pre)
 
 same-length : tie.Need-same-length
 same-length c = search needs
 
 returns : tie.Need-returns
-returns c = (samples-on _ _ _ _ _ _ _ (c .before .before .before .before .before .before .before .before .before .before .before .next-of .ensures) _ (c .before .before .before .before .before .before .before .before .before .before .is-whole .ensures) (c .before .before .before .before .before .before .before .before .before .if1 .taken) (c .before .before .before .before .before .before .before .answered .result) _ (c .before .before .before .before .before .before .before .answered .ensures .0) _ (c .before .before .before .is-accepted .ensures) _ (c .before .before .if2 .taken) (c .before .stage-of .ensures), (omega (arith, c .before .before .before .before .before .before .before .answered .ensures .1 .1 .0, c .before .before .before .before .before .before .before .before .before .before .before .next-of .ensures), (c .before .before .before .before .before .before .before .answered .ensures .1 .1 .1, samples-moves _ _ _ _ _ (c .before .before .before .before .before .before .before .before .before .before .before .next-of .ensures) (c .before .before .before .before .before .before .before .before .before .before .before .before .before .before .before .pre .1 .0) (c .before .before .before .before .before .before .before .answered .ensures .1 .0) (c .before .stage-of .ensures))))
+returns c =
+    let at-answered = c .before .before .before .before .before .before .before in
+    let test = at-answered .before .before in
+    let at-is-whole = test .before in
+    let at-next-of = at-is-whole .before in
+    let entry = at-next-of .before .before .before .before in (
+      samples-on _ _ _ _ _ _ _ (at-next-of .next-of .ensures) _ (at-is-whole .is-whole .ensures) (test .if1 .taken) (at-answered .answered .result) _ (at-answered .answered .ensures .0) _
+          (c .before .before .before .is-accepted .ensures) _ (c .before .before .if2 .taken) (c .before .stage-of .ensures),
+      (omega (arith, at-answered .answered .ensures .1 .1 .0, at-next-of .next-of .ensures), (at-answered .answered .ensures .1 .1 .1, samples-moves _ _ _ _ _ (at-next-of .next-of .ensures) (entry .pre .1 .0) (at-answered .answered .ensures .1 .0) (c .before .stage-of .ensures))),
+    )
 
 refused-requires : tie.Need-refused-requires
-refused-requires c κs = omega (arith, c .before .before .before .before .before .before .answered .ensures .1 .1, c .before .before .before .before .before .before .before .before .before .before .next-of .ensures, c .before .before .before .before .before .before .before .before .before .before .before .before .before .before .pre)
+refused-requires c κs =
+    let at-answered = c .before .before .before .before .before .before in
+    let at-next-of = at-answered .before .before .before .before in
+    let entry = at-next-of .before .before .before .before in
+    omega (arith, at-answered .answered .ensures .1 .1, at-next-of .next-of .ensures, entry .pre)
 
 same-length-2 : tie.Need-same-length-2
 same-length-2 c = search needs
 
 returns-2 : tie.Need-returns-2
-returns-2 c = (samples-refused _ _ _ _ _ _ _ (c .before .before .before .before .before .before .before .before .before .before .before .before .before .next-of .ensures) _ (c .before .before .before .before .before .before .before .before .before .before .before .before .is-whole .ensures) (c .before .before .before .before .before .before .before .before .before .before .before .if1 .taken) (c .before .before .before .before .before .before .before .before .before .answered .result) _ (c .before .before .before .before .before .before .before .before .before .answered .ensures .0) _ (c .before .before .before .before .before .is-accepted .ensures) _ (c .before .before .before .before .if2 .left) (c .before .before .refused .ensures .0), (omega (arith, c .before .before .refused .ensures .1 .0, c .before .before .before .before .before .before .before .before .before .answered .ensures .1 .1 .0, c .before .before .before .before .before .before .before .before .before .before .before .before .before .next-of .ensures), (search needs, refused-moves (Samples (c .before .before .before .before .before .before .before .before .before .before .before .before .before .before .before .before .before .args .left)) _ _ _ (c .before .before .refused .result) _ _ (c .before .before .refused .ensures .0) (omega arith))))
+returns-2 c =
+    let test2 = c .before .before .before .before in
+    let at-is-accepted = test2 .before in
+    let at-answered = at-is-accepted .before .before .before .before in
+    let test = at-answered .before .before in
+    let at-is-whole = test .before in
+    let at-next-of = at-is-whole .before in
+    let entry = at-next-of .before .before .before .before in (
+      samples-refused _ _ _ _ _ _ _ (at-next-of .next-of .ensures) _ (at-is-whole .is-whole .ensures) (test .if1 .taken) (at-answered .answered .result) _ (at-answered .answered .ensures .0) _
+          (at-is-accepted .is-accepted .ensures) _ (test2 .if2 .left) (c .before .before .refused .ensures .0),
+      (omega (arith, c .before .before .refused .ensures .1 .0, at-answered .answered .ensures .1 .1 .0, at-next-of .next-of .ensures), (search needs, refused-moves (Samples (entry .args .left)) _ _ _ (c .before .before .refused .result) _ _ (c .before .before .refused .ensures .0) (omega arith))),
+    )
 
 refused-requires-2 : tie.Need-refused-requires-2
 refused-requires-2 c κs = search needs
@@ -55,7 +85,14 @@ same-length-3 : tie.Need-same-length-3
 same-length-3 c = search needs
 
 returns-3 : tie.Need-returns-3
-returns-3 c = (samples-cut _ _ _ _ _ _ _ (c .before .before .before .before .before .before .next-of .ensures) _ (c .before .before .before .before .before .is-whole .ensures) _ (c .before .before .before .before .if1 .left) (c .before .before .refused2 .ensures .0), (omega (arith, c .before .before .refused2 .ensures .1 .0), (c .before .before .refused2 .ensures .1 .1, refused-moves (Samples (c .before .before .before .before .before .before .before .before .before .before .args .left)) _ _ _ (c .before .before .refused2 .result) _ _ (c .before .before .refused2 .ensures .0) (omega arith))))
+returns-3 c =
+    let test = c .before .before .before .before in
+    let at-is-whole = test .before in
+    let at-next-of = at-is-whole .before in
+    let entry = at-next-of .before .before .before .before in (
+      samples-cut _ _ _ _ _ _ _ (at-next-of .next-of .ensures) _ (at-is-whole .is-whole .ensures) _ (test .if1 .left) (c .before .before .refused2 .ensures .0),
+      (omega (arith, c .before .before .refused2 .ensures .1 .0), (c .before .before .refused2 .ensures .1 .1, refused-moves (Samples (entry .args .left)) _ _ _ (c .before .before .refused2 .result) _ _ (c .before .before .refused2 .ensures .0) (omega arith))),
+    )
 
 pub blocked-spec : {M : Type 1} → statement M
 blocked-spec =

@@ -29,7 +29,12 @@ same-length : tie.Need-same-length
 same-length c = search needs
 
 returns-2 : tie.Need-returns-2
-returns-2 c = (count-cut _ _ _ _ _ _ (c .before .before .before .before .before .is-whole .ensures) (c .before .before .before .before .if1 .left) (c .before .before .refused .ensures .0), (c .before .before .refused .ensures .1 .0, (c .before .before .refused .ensures .1 .1, refused-moves Count _ _ _ (c .before .before .refused .result) _ _ (c .before .before .refused .ensures .0) (omega arith))))
+returns-2 c =
+    let test = c .before .before .before .before in
+    let at-is-whole = test .before in (
+      count-cut _ _ _ _ _ _ (at-is-whole .is-whole .ensures) (test .if1 .left) (c .before .before .refused .ensures .0),
+      (c .before .before .refused .ensures .1 .0, (c .before .before .refused .ensures .1 .1, refused-moves Count _ _ _ (c .before .before .refused .result) _ _ (c .before .before .refused .ensures .0) (omega arith))),
+    )
 
 pub counted-spec : {M : Type 1} → statement M
 counted-spec =

@@ -20,7 +20,12 @@ same-length : tie.Need-same-length
 same-length c = search needs
 
 returns-2 : tie.Need-returns-2
-returns-2 c = (head-off _ _ _ _ _ _ (c .before .before .before .before .before .head-is-good .ensures) (c .before .before .before .before .if1 .left) (c .before .before .refused .ensures .0), (c .before .before .refused .ensures .1 .0, (c .before .before .refused .ensures .1 .1, refused-moves Head _ _ _ (c .before .before .refused .result) _ _ (c .before .before .refused .ensures .0) (omega arith))))
+returns-2 c =
+    let test = c .before .before .before .before in
+    let at-head-is-good = test .before in (
+      head-off _ _ _ _ _ _ (at-head-is-good .head-is-good .ensures) (test .if1 .left) (c .before .before .refused .ensures .0),
+      (c .before .before .refused .ensures .1 .0, (c .before .before .refused .ensures .1 .1, refused-moves Head _ _ _ (c .before .before .refused .result) _ _ (c .before .before .refused .ensures .0) (omega arith))),
+    )
 
 pub headed-spec : {M : Type 1} → statement M
 headed-spec =

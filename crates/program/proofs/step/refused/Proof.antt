@@ -14,7 +14,9 @@ same-length : tie.Need-same-length
 same-length c = search needs
 
 returns : tie.Need-returns
-returns c = (refused-is _ _ _ _ _ _ _ _ (c .before .before .before .before .number .ensures) (c .before .before .refused .ensures .0), (c .before .before .refused .ensures .1 .0, c .before .before .refused .ensures .1 .1))
+returns c =
+    let at-number = c .before .before .before .before in
+    (refused-is _ _ _ _ _ _ _ _ (at-number .number .ensures) (c .before .before .refused .ensures .0), (c .before .before .refused .ensures .1 .0, c .before .before .refused .ensures .1 .1))
 
 pub refused-spec : {M : Type 1} → statement M
 refused-spec = tie.close (tie.spec number-requires refused-requires same-length returns)

@@ -26,7 +26,16 @@ same-length : tie.Need-same-length
 same-length c = search needs
 
 returns : tie.Need-returns
-returns c = (settings-on _ _ _ (c .before .before .before .before .before .before .before .before .before .before .is-whole .ensures) (c .before .before .before .before .before .before .before .before .before .if1 .taken) (c .before .before .before .before .before .set-up .result) _ _ _ (c .before .before .before .before .before .before .before .before .float .ensures) (c .before .before .before .before .before .before .before .float2 .ensures) (c .before .before .before .before .before .set-up .ensures) _ _ _ _ (c .before .before .is-accepted .ensures) (c .before .if2 .taken), (table-made _ _ _ (c .before .before .before .before .before .before .before .before .before .before .is-whole .ensures) (c .before .before .before .before .before .before .before .before .before .if1 .taken) (c .before .before .before .before .before .set-up .result) _ _ _ (c .before .before .before .before .before .before .before .before .float .ensures) (c .before .before .before .before .before .before .before .float2 .ensures) (c .before .before .before .before .before .set-up .ensures), (omega arith, (refl, record { few = omega arith; less = omega arith }))))
+returns c =
+    let at-set-up = c .before .before .before .before .before in
+    let at-float2 = at-set-up .before .before in
+    let at-float = at-float2 .before in
+    let test = at-float .before in
+    let at-is-whole = test .before in (
+      settings-on _ _ _ (at-is-whole .is-whole .ensures) (test .if1 .taken) (at-set-up .set-up .result) _ _ _ (at-float .float .ensures) (at-float2 .float2 .ensures) (at-set-up .set-up .ensures) _ _ _ _
+          (c .before .before .is-accepted .ensures) (c .before .if2 .taken),
+      (table-made _ _ _ (at-is-whole .is-whole .ensures) (test .if1 .taken) (at-set-up .set-up .result) _ _ _ (at-float .float .ensures) (at-float2 .float2 .ensures) (at-set-up .set-up .ensures), (omega arith, (refl, record { few = omega arith; less = omega arith }))),
+    )
 
 refused-requires : tie.Need-refused-requires
 refused-requires c κs = search needs
@@ -38,7 +47,21 @@ same-length-3 : tie.Need-same-length-3
 same-length-3 c = search needs
 
 returns-2 : tie.Need-returns-2
-returns-2 c = (settings-refused _ _ _ (c .before .before .before .before .before .before .before .before .before .before .before .before .before .is-whole .ensures) (c .before .before .before .before .before .before .before .before .before .before .before .before .if1 .taken) (c .before .before .before .before .before .before .before .before .set-up .result) _ _ _ (c .before .before .before .before .before .before .before .before .before .before .before .float .ensures) (c .before .before .before .before .before .before .before .before .before .before .float2 .ensures) (c .before .before .before .before .before .before .before .before .set-up .ensures) _ _ _ _ (c .before .before .before .before .before .is-accepted .ensures) _ (c .before .before .before .before .if2 .left) (c .before .before .refused .ensures .0), (table-made _ _ _ (c .before .before .before .before .before .before .before .before .before .before .before .before .before .is-whole .ensures) (c .before .before .before .before .before .before .before .before .before .before .before .before .if1 .taken) (c .before .before .before .before .before .before .before .before .set-up .result) _ _ _ (c .before .before .before .before .before .before .before .before .before .before .before .float .ensures) (c .before .before .before .before .before .before .before .before .before .before .float2 .ensures) (c .before .before .before .before .before .before .before .before .set-up .ensures), (c .before .before .refused .ensures .1 .0, (c .before .before .refused .ensures .1 .1, refused-moves Settings _ _ _ (c .before .before .refused .result) _ _ (c .before .before .refused .ensures .0) (omega arith)))))
+returns-2 c =
+    let test2 = c .before .before .before .before in
+    let at-is-accepted = test2 .before in
+    let at-set-up = at-is-accepted .before .before .before in
+    let at-float2 = at-set-up .before .before in
+    let at-float = at-float2 .before in
+    let test = at-float .before in
+    let at-is-whole = test .before in (
+      settings-refused _ _ _ (at-is-whole .is-whole .ensures) (test .if1 .taken) (at-set-up .set-up .result) _ _ _ (at-float .float .ensures) (at-float2 .float2 .ensures) (at-set-up .set-up .ensures) _ _ _ _
+          (at-is-accepted .is-accepted .ensures) _ (test2 .if2 .left) (c .before .before .refused .ensures .0),
+      (
+        table-made _ _ _ (at-is-whole .is-whole .ensures) (test .if1 .taken) (at-set-up .set-up .result) _ _ _ (at-float .float .ensures) (at-float2 .float2 .ensures) (at-set-up .set-up .ensures),
+        (c .before .before .refused .ensures .1 .0, (c .before .before .refused .ensures .1 .1, refused-moves Settings _ _ _ (c .before .before .refused .result) _ _ (c .before .before .refused .ensures .0) (omega arith))),
+      ),
+    )
 
 refused-requires-2 : tie.Need-refused-requires-2
 refused-requires-2 c κs = search needs
@@ -47,7 +70,12 @@ same-length-4 : tie.Need-same-length-4
 same-length-4 c = search needs
 
 returns-3 : tie.Need-returns-3
-returns-3 c = (settings-cut _ _ _ (c .before .before .before .before .before .is-whole .ensures) _ _ _ _ (c .before .before .before .before .if1 .left) (c .before .before .refused2 .ensures .0), (table-cut _ _ _ (c .before .before .before .before .before .is-whole .ensures) (c .before .before .before .before .if1 .left), (c .before .before .refused2 .ensures .1 .0, (c .before .before .refused2 .ensures .1 .1, refused-moves Settings _ _ _ (c .before .before .refused2 .result) _ _ (c .before .before .refused2 .ensures .0) (omega arith)))))
+returns-3 c =
+    let test = c .before .before .before .before in
+    let at-is-whole = test .before in (
+      settings-cut _ _ _ (at-is-whole .is-whole .ensures) _ _ _ _ (test .if1 .left) (c .before .before .refused2 .ensures .0),
+      (table-cut _ _ _ (at-is-whole .is-whole .ensures) (test .if1 .left), (c .before .before .refused2 .ensures .1 .0, (c .before .before .refused2 .ensures .1 .1, refused-moves Settings _ _ _ (c .before .before .refused2 .result) _ _ (c .before .before .refused2 .ensures .0) (omega arith)))),
+    )
 
 pub set-spec : {M : Type 1} → statement M
 set-spec =

@@ -26,7 +26,9 @@ enum-known-stage : tie.Need-enum-known-stage
 enum-known-stage c = search needs
 
 blocked-requires : tie.Need-blocked-requires
-blocked-requires c κs = (c .before .before .before .before .before .before .before .before .before .pre .0, samples-asks _ _ _ (c .before .before .before .stage .given .1) (c .before .before .before .before .before .before .before .before .before .pre .1 .0) (c .before .before .before .before .before .before .before .before .before .pre .1 .1))
+blocked-requires c κs =
+    let entry = c .before .before .before .before .before .before .before .before .before in
+    (entry .pre .0, samples-asks _ _ _ (c .before .before .before .stage .given .1) (entry .pre .1 .0) (entry .pre .1 .1))
 
 enum-told-4 : tie.Need-enum-told-4
 enum-told-4 c = search needs
@@ -41,7 +43,9 @@ same-length : tie.Need-same-length
 same-length c = search needs
 
 returns : tie.Need-returns
-returns c = from-head _ _ _ _ _ _ (c .before .before .headed .result) _ (c .before .before .before .before .enum-told .given .1) (c .before .before .headed .ensures)
+returns c =
+    let at-enum-told = c .before .before .before .before in
+    from-head _ _ _ _ _ _ (c .before .before .headed .result) _ (at-enum-told .enum-told .given .1) (c .before .before .headed .ensures)
 
 same-length-2 : tie.Need-same-length-2
 same-length-2 c = search needs
@@ -50,13 +54,18 @@ same-length-3 : tie.Need-same-length-3
 same-length-3 c = search needs
 
 returns-2 : tie.Need-returns-2
-returns-2 c = from-settings _ _ _ _ _ _ (c .before .before .before .before .set .result) _ _ (c .before .before .before .before .before .before .before .enum-told2 .given .1) (c .before .before .before .before .set .ensures)
+returns-2 c =
+    let at-set = c .before .before .before .before in
+    let at-enum-told2 = at-set .before .before .before in
+    from-settings _ _ _ _ _ _ (at-set .set .result) _ _ (at-enum-told2 .enum-told2 .given .1) (at-set .set .ensures)
 
 same-length-4 : tie.Need-same-length-4
 same-length-4 c = search needs
 
 returns-3 : tie.Need-returns-3
-returns-3 c = from-count _ _ _ _ _ _ (c .before .before .counted .result) _ (c .before .before .before .before .enum-told3 .given .1) (c .before .before .counted .ensures)
+returns-3 c =
+    let at-enum-told3 = c .before .before .before .before in
+    from-count _ _ _ _ _ _ (c .before .before .counted .result) _ (at-enum-told3 .enum-told3 .given .1) (c .before .before .counted .ensures)
 
 same-length-5 : tie.Need-same-length-5
 same-length-5 c = search needs
@@ -65,16 +74,22 @@ same-length-6 : tie.Need-same-length-6
 same-length-6 c = search needs
 
 returns-4 : tie.Need-returns-4
-returns-4 c = from-samples _ _ _ _ _ _ (c .before .before .blocked .result) _ _ (c .before .before .before .before .before .before .stage .given .1) (c .before .before .blocked .ensures)
+returns-4 c =
+    let at-stage = c .before .before .before .before .before .before in
+    from-samples _ _ _ _ _ _ (c .before .before .blocked .result) _ _ (at-stage .stage .given .1) (c .before .before .blocked .ensures)
 
 same-length-7 : tie.Need-same-length-7
 same-length-7 c = search needs
 
 returns-5 : tie.Need-returns-5
-returns-5 c = from-end _ _ _ _ _ _ (c .before .before .ended .result) _ (c .before .before .before .before .enum-told4 .given .1) (c .before .before .ended .ensures)
+returns-5 c =
+    let at-enum-told4 = c .before .before .before .before in
+    from-end _ _ _ _ _ _ (c .before .before .ended .result) _ (at-enum-told4 .enum-told4 .given .1) (c .before .before .ended .ensures)
 
 returns-6 : tie.Need-returns-6
-returns-6 c = done-waits _ (c .enum-told5 .given .1) (c .before .before .before .before .before .before .pre .1 .0)
+returns-6 c =
+    let entry = c .before .before .before .before .before .before in
+    done-waits _ (c .enum-told5 .given .1) (entry .pre .1 .0)
 
 pub stepped-spec : {M : Type 1} → statement M
 stepped-spec =

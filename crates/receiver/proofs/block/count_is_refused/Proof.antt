@@ -1,3 +1,4 @@
+-- `count_is_refused` meets its contract: beyond 65,536 samples it refuses at once, and within them the sum does not overflow.
 use Rattle.receiver.specs.BlockWays.{count-many, count-few}
 use borrow.Author.Needs.{needs}
 use Rattle.receiver.proofs.block.count_is_refused.Statement.{statement}

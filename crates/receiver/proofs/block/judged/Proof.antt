@@ -1,3 +1,4 @@
+-- `judged` meets its contract: check 7, and then the others.
 use Rattle.receiver.specs.BlockWays.{judged-ranges, judged-later, judged-state}
 use borrow.Author.Needs.{needs}
 use Rattle.receiver.proofs.block.judged.Statement.{statement}

@@ -1,3 +1,4 @@
+-- `refused` meets its contract: the state as given, and nothing counted.
 use borrow.Author.Needs.{needs}
 use Rattle.receiver.proofs.block.refused.Statement.{statement}
 use Rattle.receiver.proofs.block.refused.Tie as tie

@@ -1,3 +1,4 @@
+-- `front_at` meets its contract: each part is fresh for the rate, the offset and the dimensions.
 use borrow.Author.Needs.{needs}
 use Rattle.receiver.proofs.setup.front_at.Statement.{statement}
 use Rattle.receiver.proofs.setup.front_at.Tie as tie

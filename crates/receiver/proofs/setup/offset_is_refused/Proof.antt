@@ -1,3 +1,4 @@
+-- `offset_is_refused` meets its contract: an offset that is not finite, or a channel edge at or beyond half the rate.
 use lib.Ieee.{ofBits, le, add, div}
 use Rattle.receiver.specs.Setup.{offsetRefused}
 use borrow.Author.Needs.{needs}

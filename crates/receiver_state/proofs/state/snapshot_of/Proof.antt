@@ -1,3 +1,4 @@
+-- `snapshot_of` meets its contract: the counts, the carrier's error and frequency, and the lock.
 use lib.Ieee.{ofBits, mul, div}
 use Rattle.receiver_state.specs.State.{hertzOf, snapshotOf}
 use borrow.Author.Needs.{needs}

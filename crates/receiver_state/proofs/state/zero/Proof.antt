@@ -1,3 +1,4 @@
+-- `zero` meets its contract: every number is zero, every flag false, every option absent.
 use lib.Ieee.{ofBits}
 use Rattle.receiver_state.specs.State.{zeroReceiver}
 use borrow.Author.Needs.{needs}

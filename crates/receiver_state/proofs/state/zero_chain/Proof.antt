@@ -1,3 +1,4 @@
+-- `zero_chain` meets its contract: every place of the chain is zero.
 use lib.Ieee.{ofBits}
 use Rattle.receiver_state.specs.State.{zeroChain}
 use borrow.Author.Needs.{needs}

@@ -1,3 +1,4 @@
+-- `zero_front` meets its contract: every place of the front is zero.
 use lib.Ieee.{ofBits}
 use Rattle.receiver_state.specs.State.{zeroFront}
 use borrow.Author.Needs.{needs}

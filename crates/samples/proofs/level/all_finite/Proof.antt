@@ -1,3 +1,4 @@
+-- `all_finite` meets its contract: each turn looks at both parts of a sample.
 use Prim.Native.Nat.{_-_, _≤_}
 use mathlib.Core.Path.{_≡_, _∙_}
 use mathlib.Core.Bool.{true}
@@ -47,7 +48,9 @@ loop-less : tie.Need-loop-less Inv-loop μ-loop
 loop-less c = search needs
 
 loop-again : tie.Need-loop-again Inv-loop μ-loop
-loop-again c = (search needs, c .still-finite .ensures ∙ turns-step _ _ _ _ (c .before .before .before .before .loop .inv .1))
+loop-again c =
+    let turn = c .before .before .before .before in
+    (search needs, c .still-finite .ensures ∙ turns-step _ _ _ _ (turn .loop .inv .1))
 
 returns : tie.Need-returns Inv-loop μ-loop
 unfolding finiteOf

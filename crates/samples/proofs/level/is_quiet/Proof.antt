@@ -1,3 +1,4 @@
+-- `is_quiet` meets its contract: from -1 to 1, and so no NaN.
 use mathlib.Core.Path.{refl}
 use lib.Ieee.{ofBits, neg, le}
 use Rattle.samples.specs.Loud.{quietOf}

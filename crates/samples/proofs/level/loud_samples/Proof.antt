@@ -1,3 +1,4 @@
+-- `loud_samples` meets its contract: each turn counts a sample that has a loud part.
 use Prim.Native.Nat.{_-_, _≤_}
 use mathlib.Core.Path.{_≡_, _∙_}
 use Rattle.laws.specs.Turns.{turns, turns-start, turns-step, turns-end}
@@ -46,7 +47,9 @@ loop-less : tie.Need-loop-less Inv-loop μ-loop
 loop-less c = search needs
 
 loop-again : tie.Need-loop-again Inv-loop μ-loop
-loop-again c = (search needs, search needs, c .louder .ensures .0 ∙ turns-step _ _ _ _ (c .before .before .before .before .loop .inv .2))
+loop-again c =
+    let turn = c .before .before .before .before in
+    (search needs, search needs, c .louder .ensures .0 ∙ turns-step _ _ _ _ (turn .loop .inv .2))
 
 returns : tie.Need-returns Inv-loop μ-loop
 unfolding loudSamples

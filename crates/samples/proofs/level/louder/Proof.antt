@@ -1,3 +1,4 @@
+-- `louder` meets its contract: one more where a part is not quiet.
 use native.Mathlib.Nat.{add-zero}
 use mathlib.Core.Path.{refl, sym}
 use borrow.Author.Needs.{needs}

@@ -1,3 +1,4 @@
+-- `still_finite` meets its contract: finite so far, and both parts are.
 use borrow.Author.Needs.{needs}
 use Rattle.samples.proofs.level.still_finite.Statement.{statement}
 use Rattle.samples.proofs.level.still_finite.Tie as tie

@@ -43,7 +43,9 @@ stepped-requires : tie.Need-stepped-requires Inv-loop μ-loop
 stepped-requires c κs = c .before .before .before .loop .inv .2
 
 stepped-requires-2 : tie.Need-stepped-requires-2 Inv-loop μ-loop
-stepped-requires-2 c κs = c .before .before .before .before .loop .inv .3
+stepped-requires-2 c κs =
+    let turn = c .before .before .before .before in
+    turn .loop .inv .3
 
 is-value-requires : tie.Need-is-value-requires Inv-loop μ-loop
 is-value-requires c κs = search needs
@@ -58,10 +60,17 @@ plus-requires-2 : tie.Need-plus-requires-2 Inv-loop μ-loop
 plus-requires-2 c κs = search needs
 
 loop-less : tie.Need-loop-less Inv-loop μ-loop
-loop-less c = omega (arith, c .before .before .before .before .before .before .before .before .before .before .loop-test)
+loop-less c =
+    let at-loop-test = c .before .before .before .before .before .before .before .before .before .before in
+    omega (arith, at-loop-test .loop-test)
 
 loop-again : tie.Need-loop-again Inv-loop μ-loop
-loop-again c = let e = c .before .before .before .before .before .before .before .stepped .ensures .1 in let f = c .before .before .before .before .before .before .stepped2 .ensures .1 in (omega (arith, c .before .before .before .before .before .before .before .before .before .before .loop-test), c .before .before .before .before .before .before .before .before .before .before .before .loop .inv .1, rw (e .by) (e .early), rw (f .by) (f .early))
+loop-again c =
+    let at-stepped2 = c .before .before .before .before .before .before in
+    let at-stepped = at-stepped2 .before in
+    let at-loop-test = at-stepped .before .before .before in
+    let turn = at-loop-test .before in
+    let e = at-stepped .stepped .ensures .1 in let f = at-stepped2 .stepped2 .ensures .1 in (omega (arith, at-loop-test .loop-test), turn .loop .inv .1, rw (e .by) (e .early), rw (f .by) (f .early))
 
 returns : tie.Need-returns Inv-loop μ-loop
 returns c = search needs

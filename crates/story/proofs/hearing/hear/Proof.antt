@@ -24,25 +24,39 @@ slice-aggregate-heard : tie.Need-slice-aggregate-heard Inv-loop μ-loop
 slice-aggregate-heard c = search needs
 
 mul-heard : tie.Need-mul-heard Inv-loop μ-loop
-mul-heard c = search (needs, c .before .loop-test, c .before .before .before .before .before .before .before .before .pre)
+mul-heard c =
+    let entry = c .before .before .before .before .before .before .before .before in
+    search (needs, c .before .loop-test, entry .pre)
 
 mul-heard-2 : tie.Need-mul-heard-2 Inv-loop μ-loop
-mul-heard-2 c = search (needs, c .before .loop-test, c .before .before .before .before .before .before .before .before .pre)
+mul-heard-2 c =
+    let entry = c .before .before .before .before .before .before .before .before in
+    search (needs, c .before .loop-test, entry .pre)
 
 add-heard : tie.Need-add-heard Inv-loop μ-loop
-add-heard c = search (needs, c .before .loop-test, c .before .before .before .before .before .before .before .before .pre)
+add-heard c =
+    let entry = c .before .before .before .before .before .before .before .before in
+    search (needs, c .before .loop-test, entry .pre)
 
 mul-heard-3 : tie.Need-mul-heard-3 Inv-loop μ-loop
-mul-heard-3 c = search (needs, c .before .loop-test, c .before .before .before .before .before .before .before .before .pre)
+mul-heard-3 c =
+    let entry = c .before .before .before .before .before .before .before .before in
+    search (needs, c .before .loop-test, entry .pre)
 
 sub-heard : tie.Need-sub-heard Inv-loop μ-loop
-sub-heard c = search (needs, c .before .loop-test, c .before .before .before .before .before .before .before .before .pre)
+sub-heard c =
+    let entry = c .before .before .before .before .before .before .before .before in
+    search (needs, c .before .loop-test, entry .pre)
 
 part-heard-start : tie.Need-part-heard-start Inv-loop μ-loop
-part-heard-start c = search (needs, c .before .loop-test, c .before .before .before .before .before .before .before .before .pre)
+part-heard-start c =
+    let entry = c .before .before .before .before .before .before .before .before in
+    search (needs, c .before .loop-test, entry .pre)
 
 part-heard-end : tie.Need-part-heard-end Inv-loop μ-loop
-part-heard-end c = search (needs, c .before .loop-test, c .before .before .before .before .before .before .before .before .pre)
+part-heard-end c =
+    let entry = c .before .before .before .before .before .before .before .before in
+    search (needs, c .before .loop-test, entry .pre)
 
 heard-requires : tie.Need-heard-requires Inv-loop μ-loop
 heard-requires c κs = search needs
@@ -57,13 +71,19 @@ tell-requires : tie.Need-tell-requires Inv-loop μ-loop
 tell-requires c κs = search needs
 
 add-k : tie.Need-add-k Inv-loop μ-loop
-add-k c = omega (arith, c .before .before .before .before .before .loop-test)
+add-k c =
+    let at-loop-test = c .before .before .before .before .before in
+    omega (arith, at-loop-test .loop-test)
 
 loop-less : tie.Need-loop-less Inv-loop μ-loop
-loop-less c = omega (arith, c .before .before .before .before .before .loop-test)
+loop-less c =
+    let at-loop-test = c .before .before .before .before .before in
+    omega (arith, at-loop-test .loop-test)
 
 loop-again : tie.Need-loop-again Inv-loop μ-loop
-loop-again c = omega (arith, c .before .before .before .before .before .loop-test)
+loop-again c =
+    let at-loop-test = c .before .before .before .before .before in
+    omega (arith, at-loop-test .loop-test)
 
 returns : tie.Need-returns Inv-loop μ-loop
 returns c = search needs
