@@ -66,16 +66,16 @@ module _ (rate offset : Float) (profile : ℤ) (table : List Float) (accepted : 
       let arm = setup-arm rate offset profile table accepted in
       let decimation = setup-decimation rate offset profile table accepted in
       let fit = fits fresh fresh cs es n c l m refl refl in
-      let low = fit .ring .arm-low in
-      let high = fit .ring .arm-high in
-      let some = fit .some in
+      let low = fit .resampler .arm-low in
+      let high = fit .resampler .arm-high in
+      let some = fit .decimator .decimation-low in
       let e : (c + 0) * d ≡ (c - 1) * d + (0 + 1) * d = one-more c d 0 (omega arith) in
       let f : (c + 2) * d ≡ (c - 1) * d + 3 * d = one-more c d 2 (omega arith) in
       let g : (sizedOf rate .arm + 2) * sizedOf rate .decimation ≡ (c + 2) * d = (λ i. (sym arm i + 2) * sym decimation i) in
       made-alike fresh fresh cs es n c l m refl refl
       (λ k K b. record {
         same = refl;
-        planes = record { inside = fit .ring .write-in; room-xs = omega arith; room-ys = omega arith; room-us = omega arith; room-vs = omega arith; real-same = refl; imaginary-same = refl };
+        planes = record { inside = fit .resampler .write-in; room-xs = omega arith; room-ys = omega arith; room-us = omega arith; room-vs = omega arith; real-same = refl; imaginary-same = refl };
       })
       (let z : (c + 0) * d ≡ c * d = ap (λ (k : ℕ). k * d) (let y : c + 0 ≡ c = omega arith in y) in omega arith)
       (λ i x y. forgets-within rate offset profile table accepted cs es i (omega arith) (omega arith) (λ j a b. same j (omega arith) (omega arith)))
@@ -138,7 +138,7 @@ module _ (r q : Receiver) (k : Alike r q) (cs es : List Call) where
         let d = r .front .decimator .decimation in
         let e = k .decimation in
         let f = k .counter in
-        let early = fits r q cs es i 0 l m e f .early in
+        let early = fits r q cs es i 0 l m e f .decimator .counter-in in
         recovers-within r (taken-admitted r cs (omega arith)) D (k .first-typed .real-words) (k .first-typed .imaginary-words) cs i l h
         ∙ ap (λ (v : Counts). cond (eqb ((r .front .decimator .counter + i + 1) % d) 0) (Value (scaledOf d v)) Nothing)
         (sums-alike d mixed-first mixed-second i (omega arith) (λ j a b. mixed-alike j (omega arith) (omega arith) (same j a b)))
@@ -149,7 +149,7 @@ module _ (r q : Receiver) (k : Alike r q) (cs es : List Call) where
     given-through : r .front .decimator .decimation ≤ 1 → getD (givenOf r cs) i Nothing ≡ getD (givenOf q es) i Nothing
     given-through D =
         let f = k .decimation in
-        let some = fits r q cs es i 0 l m f (k .counter) .some in
+        let some = fits r q cs es i 0 l m f (k .counter) .decimator .decimation-low in
         let a = mixed-length (conjugatedOf (r .chain .profile)) (r .front .oscillator) (takenOf r cs) in
         let b = mixed-length (conjugatedOf (q .chain .profile)) (q .front .oscillator) (takenOf q es) in
         ap (λ (os : List Output). getD os i Nothing) (given-is r cs ∙ outputs-through (r .front .decimator) D mixed-first)
@@ -162,16 +162,16 @@ module _ (r q : Receiver) (k : Alike r q) (cs es : List Call) where
   unfolding latest upto
   like-start n l m zero K h =
       let fit = fits r q cs es n 0 l m (k .decimation) (k .counter) in
-      let high = fit .ring .arm-high in
+      let high = fit .resampler .arm-high in
       let a = k .first-typed .ring-real in
       let b = k .first-typed .ring-imaginary in
       let c = k .second-typed .ring-real in
       let d = k .second-typed .ring-imaginary in
       record {
         same = k .resampler;
-        planes = record { inside = fit .ring .write-in; room-xs = omega arith; room-ys = omega arith; room-us = omega arith; room-vs = omega arith; real-same = refl; imaginary-same = refl };
+        planes = record { inside = fit .resampler .write-in; room-xs = omega arith; room-ys = omega arith; room-us = omega arith; room-vs = omega arith; real-same = refl; imaginary-same = refl };
       }
-  like-start n l m (suc j) K h = let early = fits r q cs es n 0 l m (k .decimation) (k .counter) .early in absurd (omega arith)
+  like-start n l m (suc j) K h = let early = fits r q cs es n 0 l m (k .decimation) (k .counter) .decimator .counter-in in absurd (omega arith)
 
   -- THE FRONT RECOVERS: two such states, whatever they hold, and whatever was called and taken since, make the same values of a sample once as many have come as the filters reach back, (c + 3) d since the last decimated value or
   -- c where d = 1, where the latest (c + 2) d - 2 of them and the table lent with it are the same
@@ -183,9 +183,9 @@ module _ (r q : Receiver) (k : Alike r q) (cs es : List Call) where
       let c = r .front .resampler .arm in
       let since = r .front .decimator .counter in
       let fit = fits r q cs es n 0 l m (k .decimation) (k .counter) in
-      let low = fit .ring .arm-low in
-      let some = fit .some in
-      let early = fit .early in
+      let low = fit .resampler .arm-low in
+      let some = fit .decimator .decimation-low in
+      let early = fit .decimator .counter-in in
       let f : (c + 2) * d ≡ (c - 1) * d + 3 * d = one-more c d 2 (omega arith) in
       ⊎-elim
       (λ D.

@@ -1,13 +1,12 @@
 -- What a setup and a reading write into what they are lent. An accepted setup writes only the first 32 c places of the table, a refused one nothing; an accepted read writes only the points it counts, a
 -- refused one nothing. Assumes nothing.
-use mathlib.Core.Path.{_≡_, refl, sym, ap, _∙_, subst}
+use mathlib.Core.Path.{_≡_, refl, sym, _∙_, subst}
 use mathlib.Core.Bool.{Bool, true, false, cond}
 use mathlib.Core.List.{List, _++_}
 use Prim.Native.Nat.{ℕ, _*_, _/_, _≤_, min}
 use native.Mathlib.Omega.{arith}
 use lib.IntN.{ℤ}
-use lib.ListN.{length, drop, length-append, length-drop}
-use lib.Seq.{drop-append-seam}
+use lib.ListN.{length, drop}
 use lib.Ieee.{Float, binary64, ofBits}
 use borrow.Author.Tests.{ltb-false}
 use Rattle.laws.specs.Places.{length-upto}
@@ -26,17 +25,7 @@ use Rattle.receiver.specs.Reading.{readingOf}
 use Rattle.receiver_state.specs.Admitted.{admittedOf}
 use Rattle.receiver.specs.Ways.{rate-admitted}
 use Rattle.receiver_state.specs.Laws.{zero-refused}
-
--- as it was but for the first n places
-pub record OnlyFirst {A : Type 0} (n : ℕ) (before after : List A) : Type 0 where
-  pub size : length after ≡ length before
-  pub rest : drop n after ≡ drop n before
-
-only-first : {A : Type 0} (n : ℕ) (xs l : List A) → length xs ≡ n → n ≤ length l → OnlyFirst n l (xs ++ drop n l)
-only-first n xs l e h = record {
-  size = length-append xs (drop n l) ∙ (let d = length-drop n l in omega arith);
-  rest = ap (λ (k : ℕ). drop k (xs ++ drop n l)) (sym e) ∙ drop-append-seam xs (drop n l);
-}
+use Rattle.promises.specs.Written.{OnlyFirst, only-first}
 
 -- ---- setup
 module _ (rate offset : Float) (profile : ℤ) (lent : List Float) where

@@ -12,23 +12,23 @@ use Rattle.receiver_state.specs.declared.state.Receiver.{Receiver}
 use Rattle.receiver.specs.Block.{Judged, judgedOf, Outcome, acceptedOf, refusedOf, blockBy, blockOf}
 use Rattle.promises.specs.Deliveries.{deliveriesOf, dibitsIn, bytesIn, length-dibits, length-bytes, delivered-fits, accepted-is}
 
--- only the first k places were written: the length is kept, and from place k on lies what lay there
-pub record Written (k : ℕ) (before after : List ℕ) : Type 0 where
+-- only the first n places were written: the length is kept, and from place n on lies what lay there
+pub record OnlyFirst {A : Type 0} (n : ℕ) (before after : List A) : Type 0 where
   pub size : length after ≡ length before
-  pub rest : drop k after ≡ drop k before
+  pub rest : drop n after ≡ drop n before
 
-written-front : (vs l : List ℕ) (k : ℕ) → length vs ≡ k → k ≤ length l → Written k l (vs ++ drop k l)
-written-front vs l k e h = record { size = simp (length-append, length-drop) (omega arith); rest = drop-at vs (drop k l) k e }
+pub only-first : {A : Type 0} (n : ℕ) (xs l : List A) → length xs ≡ n → n ≤ length l → OnlyFirst n l (xs ++ drop n l)
+only-first n xs l e h = record { size = simp (length-append, length-drop) (omega arith); rest = drop-at xs (drop n l) n e }
 
 module _ (r : Receiver) (table xs : List Float) (ds rs : List ℕ) where
   -- an accepted block writes only the first k dibits and 2k reliability bytes
   pub accepted-writes : blockOf r table xs ds rs .number ≡ 0
-      → Written (blockOf r table xs ds rs .count) ds (blockOf r table xs ds rs .dibits) × Written (2 * blockOf r table xs ds rs .count) rs (blockOf r table xs ds rs .reliabilities)
+      → OnlyFirst (blockOf r table xs ds rs .count) ds (blockOf r table xs ds rs .dibits) × OnlyFirst (2 * blockOf r table xs ds rs .count) rs (blockOf r table xs ds rs .reliabilities)
   accepted-writes h =
       let l = deliveriesOf r table xs in
       let k = delivered-fits r table xs ds rs h in
-      subst (λ (o : Outcome). Written (o .count) ds (o .dibits) × Written (2 * o .count) rs (o .reliabilities)) (sym (accepted-is r table xs ds rs h))
-      (written-front (dibitsIn l) ds (length l) (length-dibits l) (k .0), written-front (bytesIn l) rs (2 * length l) (length-bytes l) (k .1))
+      subst (λ (o : Outcome). OnlyFirst (o .count) ds (o .dibits) × OnlyFirst (2 * o .count) rs (o .reliabilities)) (sym (accepted-is r table xs ds rs h))
+      (only-first (length l) (dibitsIn l) ds (length-dibits l) (k .0), only-first (2 * length l) (bytesIn l) rs (length-bytes l) (k .1))
 
   -- a refused block gives its number, the state as given, k 0, overload 0, a Snapshot of zeros and untouched buffers
   pub refused-is : (blockOf r table xs ds rs .number ≡ 0 → ⊥) → blockOf r table xs ds rs ≡ refusedOf (blockOf r table xs ds rs .number) r ds rs

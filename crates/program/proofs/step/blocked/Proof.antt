@@ -65,18 +65,22 @@ same-length-2 : tie.Need-same-length-2
 same-length-2 c = search needs
 
 returns-2 : tie.Need-returns-2
-returns-2 c =
-    let test2 = c .before .before .before .before in
-    let at-is-accepted = test2 .before in
-    let at-answered = at-is-accepted .before .before .before .before in
-    let test = at-answered .before .before in
-    let at-is-whole = test .before in
-    let at-next-of = at-is-whole .before in
-    let entry = at-next-of .before .before .before .before in (
+returns-2 c = (
+  let test2 = c .before .before .before .before in
+      let at-is-accepted = test2 .before in
+      let at-answered = at-is-accepted .before .before .before .before in
+      let test = at-answered .before .before in
+      let at-is-whole = test .before in
+      let at-next-of = at-is-whole .before in
       samples-refused _ _ _ _ _ _ _ (at-next-of .next-of .ensures) _ (at-is-whole .is-whole .ensures) (test .if1 .taken) (at-answered .answered .result) _ (at-answered .answered .ensures .0) _
-          (at-is-accepted .is-accepted .ensures) _ (test2 .if2 .left) (c .before .before .refused .ensures .0),
-      (omega (arith, c .before .before .refused .ensures .1 .0, at-answered .answered .ensures .1 .1 .0, at-next-of .next-of .ensures), (search needs, refused-moves (Samples (entry .args .left)) _ _ _ (c .before .before .refused .result) _ _ (c .before .before .refused .ensures .0) (omega arith))),
-    )
+      (at-is-accepted .is-accepted .ensures) _ (test2 .if2 .left) (c .before .before .refused .ensures .0),
+  (
+    let at-answered = c .before .before .before .before .before .before .before .before .before in
+        let at-next-of = at-answered .before .before .before .before in
+        omega (arith, c .before .before .refused .ensures .1 .0, at-answered .answered .ensures .1 .1 .0, at-next-of .next-of .ensures),
+    (search needs, let entry = c .before .before .before .before .before .before .before .before .before .before .before .before .before .before .before .before .before in refused-moves (Samples (entry .args .left)) _ _ _ (c .before .before .refused .result) _ _ (c .before .before .refused .ensures .0) (omega arith)),
+  ),
+)
 
 refused-requires-2 : tie.Need-refused-requires-2
 refused-requires-2 c κs = search needs
