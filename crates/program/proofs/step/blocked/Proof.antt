@@ -78,7 +78,11 @@ returns-2 c = (
     let at-answered = c .before .before .before .before .before .before .before .before .before in
         let at-next-of = at-answered .before .before .before .before in
         omega (arith, c .before .before .refused .ensures .1 .0, at-answered .answered .ensures .1 .1 .0, at-next-of .next-of .ensures),
-    (search needs, let entry = c .before .before .before .before .before .before .before .before .before .before .before .before .before .before .before .before .before in refused-moves (Samples (entry .args .left)) _ _ _ (c .before .before .refused .result) _ _ (c .before .before .refused .ensures .0) (omega arith)),
+    (
+      search needs,
+      let entry = c .before .before .before .before .before .before .before .before .before .before .before .before .before .before .before .before .before in
+          refused-moves (Samples (entry .args .left)) _ _ _ (c .before .before .refused .result) _ _ (c .before .before .refused .ensures .0) (omega arith),
+    ),
   ),
 )
 
