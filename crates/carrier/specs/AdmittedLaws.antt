@@ -1,5 +1,4 @@
 -- The test of a carrier's place passes exactly where its ranges hold. Assumes nothing.
-use Prim.Native.Nat.{ℕ, _≤_}
 use mathlib.Core.Path.{_≡_, ap}
 use mathlib.Core.Bool.{Bool, true, _&&_}
 use lib.Dec.{leb}

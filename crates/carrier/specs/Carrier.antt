@@ -5,14 +5,16 @@ use mathlib.Core.List.{List}
 use lib.Dec.{leb}
 use lib.IntN.{pos}
 use lib.Ieee.{Float, binary32, binary64, ofBits, ofInt, add, sub, mul, div, neg, lt}
-use Rattle.numbers.specs.Numbers.{toEven, wholeOf, clampOf}
+use Rattle.numbers.specs.Constants.{fullTurn}
+use Rattle.numbers.specs.Numbers.{clampOf}
+use Rattle.whole.specs.Whole.{toEven, wholeOf}
 use Rattle.numbers.specs.Root.{sqrtOf}
 use Rattle.routines.specs.Circle.{pairOf}
 use Rattle.routines.specs.declared.circle.SineCosine.{SineCosine}
 use Rattle.complex.specs.declared.Complex32.{Complex32}
 use Rattle.complex.specs.Complex.{narrowedOf}
-use Rattle.tracker.specs.Tracker.{Planes}
-use Rattle.sequence.specs.declared.soft.Soft.{Soft}
+use Rattle.complex.specs.Planes.{Planes}
+use Rattle.answers.specs.declared.soft.Soft.{Soft}
 use Rattle.sequence.specs.Sequence as Sequence
 use Rattle.sequence.specs.Admitted as Admitted
 use Rattle.lms_detector.specs.Detector as Detector
@@ -54,10 +56,6 @@ unfoldable pub correctedOf : Loop → Complex32 → Complex32
 correctedOf l z = turnedBackOf (pairOf (rotationOf l)) z
 
 -- ---- the loop's turn
-
--- 2 pi
-abbrev pub fullTurn : Float
-fullTurn = ofBits binary64 0x401921fb54442d18  -- 6.283185307179586
 
 -- less the nearest number of full turns, a tie to the even one
 unfoldable pub unwoundOf : Float → Float
@@ -120,14 +118,14 @@ loopAfterOf l phase power reliable =
 -- ---- a symbol
 
 -- what a step leaves
-pub record Run : Type 0 where
+pub record CarrierStep : Type 0 where
   pub carried : Carried
   pub channels : Planes
   pub costs : List Float
   pub parents : List ℕ
 
 -- what the detector's step makes of the loop
-abbrev pub carriedWith : CarrierPlace → Bool → Detector.Run → Run
+abbrev pub carriedWith : CarrierPlace → Bool → Detector.DetectorStep → CarrierStep
 carriedWith c reliable d = record {
   carried = record {
     place = record { turn = loopAfterOf (c .turn) (d .detected .phase) (d .detected .power) reliable; detector = d .detected .place };
@@ -141,6 +139,6 @@ carriedWith c reliable d = record {
 }
 
 -- the symbol is corrected, and the detector takes its step
-unfoldable pub carriedOf : CarrierPlace → Complex32 → Bool → Soft → Planes → List Float → List ℕ → Run
+unfoldable pub carriedOf : CarrierPlace → Complex32 → Bool → Soft → Planes → List Float → List ℕ → CarrierStep
 carriedOf c z reliable oldest channels costs parents =
     carriedWith c reliable (Detector.detectedOf (c .detector) (correctedOf (c .turn) z) reliable oldest channels costs parents)

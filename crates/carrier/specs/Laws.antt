@@ -7,14 +7,14 @@ use mathlib.Core.Bool.{Bool}
 use mathlib.Core.List.{List}
 use lib.Ieee.{Float}
 use Rattle.complex.specs.declared.Complex32.{Complex32}
-use Rattle.tracker.specs.Tracker.{Planes}
-use Rattle.sequence.specs.declared.soft.Soft.{Soft}
+use Rattle.complex.specs.Planes.{Planes}
+use Rattle.answers.specs.declared.soft.Soft.{Soft}
 use Rattle.lms_detector.specs.Detector as Detector
 use Rattle.lms_detector.specs.Laws.{detected-ranged}
 use Rattle.carrier.specs.declared.Loop.{Loop}
 use Rattle.carrier.specs.declared.CarrierPlace.{CarrierPlace}
-use Rattle.carrier.specs.Carrier.{Run, correctedOf, phaseErrorOf, frequencyAfterOf, phaseAfterOf, errorAfterOf, isLocked, loopAfterOf, carriedWith, carriedOf}
-use Rattle.carrier.specs.Ranges.{Ranged, Kept}
+use Rattle.carrier.specs.Carrier.{CarrierStep, correctedOf, phaseErrorOf, frequencyAfterOf, phaseAfterOf, errorAfterOf, isLocked, loopAfterOf, carriedWith, carriedOf}
+use Rattle.carrier.specs.Ranges.{Ranged, RangedAfter}
 
 -- the loop's turn from its parts
 pub loop-is : (l : Loop) (phase power : Float) (reliable : Bool) (e frequency error after : Float) (locked : Bool)
@@ -23,10 +23,10 @@ pub loop-is : (l : Loop) (phase power : Float) (reliable : Bool) (e frequency er
 unfolding loopAfterOf
 loop-is l phase power reliable e frequency error after locked is-e is-frequency is-error is-after is-locked = rw (is-locked, is-after, is-error, is-frequency, is-e)
 
-pub step-is : (c : CarrierPlace) (z input : Complex32) (reliable : Bool) (oldest : Soft) (channels : Planes) (costs : List Float) (parents : List ℕ) (d : Detector.Run) (turn : Loop)
+pub step-is : (c : CarrierPlace) (z input : Complex32) (reliable : Bool) (oldest : Soft) (channels : Planes) (costs : List Float) (parents : List ℕ) (d : Detector.DetectorStep) (turn : Loop)
     → input ≡ correctedOf (c .turn) z → d ≡ Detector.detectedOf (c .detector) input reliable oldest channels costs parents
     → turn ≡ loopAfterOf (c .turn) (d .detected .phase) (d .detected .power) reliable
-    → _≡_ {A = Run}
+    → _≡_ {A = CarrierStep}
     (record {
       carried = record { place = record { turn = turn; detector = d .detected .place }; answer = d .detected .answer; soft = d .detected .soft; equalized = d .detected .equalized };
       channels = d .channels;
@@ -45,7 +45,7 @@ alternation-below l r phase power reliable e = let k = mod-lt (l .alternation + 
 
 -- ADMITTED IN, ADMITTED OUT
 pub carried-ranged : (c : CarrierPlace) (z : Complex32) (reliable : Bool) (oldest : Soft) (channels : Planes) (costs : List Float) (parents : List ℕ)
-    → Ranged c (channels .real) (channels .imaginary) costs parents → Kept (carriedOf c z reliable oldest channels costs parents)
+    → Ranged c (channels .real) (channels .imaginary) costs parents → RangedAfter (carriedOf c z reliable oldest channels costs parents)
 unfolding carriedOf
 carried-ranged c z reliable oldest channels costs parents h = record {
   alternation = alternation-below (c .turn) _ _ _ reliable refl;

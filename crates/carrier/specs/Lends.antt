@@ -4,13 +4,13 @@ use mathlib.Core.List.{List}
 use lib.Ieee.{Float}
 use denote.Ref.{now}
 use Rattle.laws.specs.Lent.{Lends}
-use Rattle.tracker.specs.Tracker.{Planes}
+use Rattle.complex.specs.Planes.{Planes}
 use Rattle.carrier.specs.declared.Carried.{Carried}
-use Rattle.carrier.specs.Carrier.{Run}
+use Rattle.carrier.specs.Carrier.{CarrierStep}
 
 -- the channels, the costs and the parents as they are given, and all that the step leaves
 module _ (r : Carried) (channelReal channelImaginary costs : Lends Float) (parents : Lends ℕ) where
-  abbrev pub leaves : (Planes → List Float → List ℕ → Run → Type 0) → Type 0
+  abbrev pub leaves : (Planes → List Float → List ℕ → CarrierStep → Type 0) → Type 0
   leaves Q =
       Q
       (record { real = now (channelReal .entry); imaginary = now (channelImaginary .entry) })

@@ -5,7 +5,7 @@ use lib.Ieee.{Float}
 use Rattle.sequence.specs.Ranges as Sequence
 use Rattle.lms_detector.specs.Ranges as Detector
 use Rattle.carrier.specs.declared.CarrierPlace.{CarrierPlace}
-use Rattle.carrier.specs.Carrier.{Run}
+use Rattle.carrier.specs.Carrier.{CarrierStep}
 
 pub record PlaceRanged (c : CarrierPlace) : Type 0 where
   pub alternation : c .turn .alternation ≤ 7
@@ -16,5 +16,5 @@ pub record Ranged (c : CarrierPlace) (real imaginary costs : List Float) (parent
   pub detector : Detector.Ranged (c .detector) real imaginary costs parents
 
 -- what a step leaves is in range
-abbrev pub Kept : Run → Type 0
-Kept r = Ranged (r .carried .place) (r .channels .real) (r .channels .imaginary) (r .costs) (r .parents)
+abbrev pub RangedAfter : CarrierStep → Type 0
+RangedAfter r = Ranged (r .carried .place) (r .channels .real) (r .channels .imaginary) (r .costs) (r .parents)

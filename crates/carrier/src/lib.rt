@@ -4,28 +4,27 @@ ghost use mathlib.Core.Path.{_≡_};
 ghost use Prim.Native.Nat.{_≤_};
 ghost use Rattle.carrier.specs.Carrier.{freshPlace, admittedOf, rotationOf, turnedBackOf, correctedOf, unwoundOf, phaseErrorOf};
 ghost use Rattle.carrier.specs.Carrier.{frequencyAfterOf, phaseAfterOf, errorAfterOf, isLocked, loopAfterOf, carriedOf};
-ghost use Rattle.carrier.specs.Ranges.{Ranged, Kept};
+ghost use Rattle.carrier.specs.Ranges.{Ranged, RangedAfter};
 ghost use Rattle.carrier.specs.Lends.{leaves};
+use answers::PARENTS;
+use answers::soft::Soft;
+use answers::walk::Answer;
+use channels::CHANNELS;
+use channels::STATES;
 use complex::Complex32;
 use complex::Complex64;
 use complex::Observation;
+use numbers::TURN;
 use numbers::compare::clamp;
 use numbers::compare::clamp32;
 use numbers::narrow::widen;
-use numbers::whole::round_ties_even;
 use roots::sqrt32;
 use routines::circle::SineCosine;
 use routines::circle::sine_cosine;
-use sequence::CHANNELS;
-use sequence::PARENTS;
-use sequence::STATES;
-use sequence::soft::Soft;
 use sequence::step::DetectorPlace;
-use sequence::walk::Answer;
+use whole::round_ties_even;
 
 const PI: f64 = 3.141592653589793;
-
-const FULL_TURN: f64 = 6.283185307179586;
 
 // Phase and frequency (radians a symbol), the alternation of the constellation, whether the loop is
 // locked, and the smoothed size of its error.
@@ -102,7 +101,7 @@ fn corrected(l: Loop, sample: Complex32) -> Complex32
 fn unwound(phase: f64) -> f64
     ensures { λ r. ⌜ r ≡ unwoundOf phase ⌝ }
 {
-    phase - round_ties_even(phase / FULL_TURN) * FULL_TURN
+    phase - round_ties_even(phase / TURN) * TURN
 }
 
 fn phase_error(e: f32) -> f64
@@ -166,7 +165,7 @@ pub fn step(
 ) -> Carried
     requires { ⌜ Ranged c (now «channel_real») (now «channel_imaginary») (now costs) (now parents) ⌝ }
     ensures { λ r. ⌜ leaves r «channel_real» «channel_imaginary» costs parents
-        (λ channels held table after. (after ≡ carriedOf c sample reliable oldest channels held table) × Kept after) ⌝ }
+        (λ channels held table after. (after ≡ carriedOf c sample reliable oldest channels held table) × RangedAfter after) ⌝ }
 {
     let before = c.turn;
     let detector = c.detector;

@@ -3,10 +3,10 @@ ghost use Rattle.lms_detector.specs.Ranges.{Ranged};
 use super::say::number;
 use super::say::text;
 use super::seeded::point;
+use answers::walk::Answer;
 use replay::next;
 use replay_detector::stored;
 use sequence::step::DetectorPlace;
-use sequence::walk::Answer;
 
 // Silent steps before the first dibit, dibits of 0 with [0,0], and every other answer.
 struct Tally {
@@ -81,7 +81,7 @@ fn detect(
             place,
             point(seed),
             false,
-            sequence::soft::oldest(records, write),
+            answers::soft::oldest(records, write),
             &mut *real,
             &mut *imaginary,
             &mut *costs,

@@ -1,7 +1,7 @@
 // Case 15: a block of no samples, with room enough and too little.
 use super::say::number;
 use super::say::text;
-use receiver_state::refusal::number as number_of;
+use checks::refusal::number as number_of;
 use receiver_state::state::Receiver;
 
 fn block(r: Receiver, table: &[f32], dibits: &mut [u8], reliabilities: &mut [u8]) {

@@ -1,7 +1,7 @@
 // Cases 11 and 12: what a setup answers.
 use super::say::number;
 use super::say::text;
-use receiver_state::refusal::number as number_of;
+use checks::refusal::number as number_of;
 
 // The refusal's number, or 0, and the dimensions in the state that came back.
 struct Answer {

@@ -10,9 +10,9 @@ use lib.Ieee.{Float, nan}
 use Rattle.laws.specs.Turns.{turns}
 use Rattle.laws.specs.Places.{upto, upto-more}
 use Rattle.complex.specs.declared.Complex32.{Complex32}
-use Rattle.tracker.specs.Tracker.{pointAt}
-use Rattle.sequence.specs.declared.soft.Slot.{Slot}
-use Rattle.sequence.specs.Observed.{recordBefore}
+use Rattle.complex.specs.Planes.{pointAt}
+use Rattle.answers.specs.declared.soft.Slot.{Slot}
+use Rattle.answers.specs.Observed.{recordBefore}
 use Rattle.recovery.specs.declared.step.Found.{Found}
 use Rattle.recovery.specs.declared.step.Found.the-variants.{Nothing, Here}
 use Rattle.recovery.specs.Recovery as Recovery

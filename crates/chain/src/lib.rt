@@ -9,17 +9,23 @@ ghost use Rattle.chain.specs.Rows.{valuesOf, chainOf};
 ghost use Rattle.chain.specs.Lends.{given, leaves};
 ghost use Rattle.chain.specs.Ranges.{Asks};
 ghost use Rattle.chain.specs.RowLaws.{Left};
+use answers::PARENTS;
+use answers::soft::Records;
 use carrier::CarrierPlace;
+use channels::CHANNELS;
+use channels::STATES;
 use clock::ClockPlace;
 use decisions::Decided;
 use decisions::DecisionsPlace;
-use decisions::POINTS;
 use decisions::decide;
+use equalizer::WEIGHTS;
+use filter::RING;
 use peak::KeeperPlace;
+use peak::VALUES;
+use recovery::ROW;
 use recovery::RecoveryPlace;
 use recovery::recover;
-use sequence::PARENTS;
-use sequence::soft::Records;
+use signal::POINTS;
 use signal::ViewPlace;
 
 // The places of the chain's parts, the profile, the dibits delivered since setup, and those of them
@@ -62,18 +68,18 @@ pub fn fresh(profile: i32) -> ChainPlace
 pub fn chain(
     place: ChainPlace,
     records: Records,
-    row_real: &[f32; 256],
-    row_imaginary: &[f32; 256],
+    row_real: &[f32; ROW],
+    row_imaginary: &[f32; ROW],
     made: usize,
-    keeper_real: &mut [f32; 64],
-    keeper_imaginary: &mut [f32; 64],
-    clock_real: &mut [f32; 256],
-    clock_imaginary: &mut [f32; 256],
-    weight_real: &mut [f32; 21],
-    weight_imaginary: &mut [f32; 21],
-    channel_real: &mut [f32; 256],
-    channel_imaginary: &mut [f32; 256],
-    costs: &mut [f32; 64],
+    keeper_real: &mut [f32; VALUES],
+    keeper_imaginary: &mut [f32; VALUES],
+    clock_real: &mut [f32; RING],
+    clock_imaginary: &mut [f32; RING],
+    weight_real: &mut [f32; WEIGHTS],
+    weight_imaginary: &mut [f32; WEIGHTS],
+    channel_real: &mut [f32; CHANNELS],
+    channel_imaginary: &mut [f32; CHANNELS],
+    costs: &mut [f32; STATES],
     parents: &mut [u8; PARENTS],
     view_real: &mut [f32; POINTS],
     view_imaginary: &mut [f32; POINTS],
@@ -104,9 +110,9 @@ pub fn chain(
     let keeper = place.keeper;
     let clock = place.clock;
     let first = RecoveryPlace { keeper, clock };
-    let mut symbol_real = [0.0; 256];
-    let mut symbol_imaginary = [0.0; 256];
-    let mut reliable = [false; 256];
+    let mut symbol_real = [0.0; ROW];
+    let mut symbol_imaginary = [0.0; ROW];
+    let mut reliable = [false; ROW];
     let r = recover(
         first,
         row_real,

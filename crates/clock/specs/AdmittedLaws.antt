@@ -10,12 +10,11 @@ use lib.Ieee.Fits.{and-l, and-r, and-i, eq→eqb}
 use lib.Ieee.Bits.{is-true}
 use lib.Ieee.Scale.{finite}
 use borrow.Author.Tests.{le-leb, lt-leb}
-use Rattle.laws.specs.FloatOrder.{sign-times, le→, not-lt→le}
+use Rattle.laws.specs.FloatOrder.{sign-times, le→, not-lt→le, lt-nan}
 use Rattle.laws.specs.FloatSums.{ends, in-finite}
 use Rattle.clock.specs.declared.ClockPlace.{ClockPlace}
 use Rattle.clock.specs.Clock.{within, minus16, f48, countsFit, admittedOf, tenth, minusTenth}
 use Rattle.clock.specs.Ranges.{Within, Admitted}
-use Rattle.clock.specs.Update.{lt-nan}
 
 -- ---- a range: two comparisons that a NaN passes
 pub within-from : (x low high : Float) → T (ends low high) → T (within x low high) → Within low high x

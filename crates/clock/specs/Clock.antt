@@ -8,7 +8,9 @@ use lib.IntN.{ℤ, pos, negsuc, natAbs, _+ℤ_, _-ℤ_}
 use lib.ListN.{set}
 use lib.Ieee.{Float, binary32, ofBits, add, sub, mul, lt, toSigned}
 use Rattle.laws.specs.Turns.{turns, until}
-use Rattle.numbers.specs.Numbers.{wholeOf, downward, clampOf}
+use Rattle.numbers.specs.Constants.{zero32}
+use Rattle.numbers.specs.Numbers.{clampOf}
+use Rattle.whole.specs.Whole.{wholeOf, downward}
 use Rattle.complex.specs.declared.Complex32.{Complex32}
 use Rattle.filter.specs.Filter.{Windows, matchedOf}
 use Rattle.clock.specs.declared.ClockPlace.{ClockPlace}
@@ -21,7 +23,7 @@ abbrev pub sixteen : Float
 sixteen = ofBits binary32 0x41800000  -- 16
 
 abbrev pub freshPlace : ClockPlace
-freshPlace = record { start = 0; count = 0; position = 0; warm = false; phase = sixteen; rate = ofBits binary32 0x00000000 }
+freshPlace = record { start = 0; count = 0; position = 0; warm = false; phase = sixteen; rate = zero32 }
 
 -- ---- the phase brought into range: its arm, and by how many samples the window moves
 pub record Turning : Type 0 where
@@ -120,18 +122,18 @@ unfoldable pub tickedOf : ClockPlace → Complex32 → List Float → List Float
 tickedOf c z re im = record { stepped = timedOf (takenOf c); real = set re ((c .start + c .count) % 256) (z .real); imaginary = set im ((c .start + c .count) % 256) (z .imaginary) }
 
 -- a whole step: the windows too
-pub record Run : Type 0 where
+pub record ClockStep : Type 0 where
   pub stepped : Stepped
   pub real : List Float
   pub imaginary : List Float
   pub windows : Windows
 
-abbrev pub runOf : Stepped → List Float → List Float → List Float → List Float → Windows → Run
-runOf s taps derivatives real imaginary before = record { stepped = s; real = real; imaginary = imaginary; windows = windowsOf (s .due) taps derivatives real imaginary before }
+abbrev pub withWindows : Stepped → List Float → List Float → List Float → List Float → Windows → ClockStep
+withWindows s taps derivatives real imaginary before = record { stepped = s; real = real; imaginary = imaginary; windows = windowsOf (s .due) taps derivatives real imaginary before }
 
-unfoldable pub steppedOf : List Float → List Float → ClockPlace → Complex32 → List Float → List Float → Windows → Run
+unfoldable pub steppedOf : List Float → List Float → ClockPlace → Complex32 → List Float → List Float → Windows → ClockStep
 steppedOf taps derivatives c sample real imaginary before =
-    runOf (timedOf (takenOf c)) taps derivatives (set real ((c .start + c .count) % 256) (sample .real)) (set imaginary ((c .start + c .count) % 256) (sample .imaginary)) before
+    withWindows (timedOf (takenOf c)) taps derivatives (set real ((c .start + c .count) % 256) (sample .real)) (set imaginary ((c .start + c .count) % 256) (sample .imaginary)) before
 
 -- ---- the loop's update by a timing error
 -- With the bandwidth BW = 0.01 and the denominator 1 + 128 BW + BW BW, both f32: alpha = 256 BW / denominator, beta = 4 BW BW / denominator

@@ -10,13 +10,13 @@ use lib.IntN.{ℤ, pos, negℤ}
 use lib.Ieee.{Float, nan, inf, fin, binary32, ofBits, ofInt, round, neg, lt, le, up, down, emax, toUnsigned, toSigned}
 use lib.Ieee.Fits.{down-pos}
 use lib.Ieee.Exact.{HasValue, round-exact}
-use lib.Ieee.Positive.{num, den}
+use Rattle.numbers.specs.Constants.{zero32}
 use Rattle.laws.specs.Ring.{lt-or-ge}
 use Rattle.laws.specs.FloatOrder.{le→}
 use Rattle.laws.specs.FloatSums.{In, in-finite}
-use Rattle.numbers.specs.Numbers.{wholeOf, downward}
+use Rattle.whole.specs.Whole.{wholeOf, downward}
 use Rattle.clock.specs.Clock.{armNumberOf, sixteen, thirtyTwo, minus16, f48}
-use Rattle.clock.specs.Ranges.{f0, Ceiling}
+use Rattle.clock.specs.Ranges.{Ceiling}
 
 -- ---- a whole number up to 48 is an f32
 exact-value : (s : Bool) (q : ℕ) → q ≤ 48 → HasValue (round binary32 s q 1) s q 1
@@ -82,7 +82,7 @@ pub record Middle (p : Float) (w : ℕ) : Type 0 where
   pub most : w < 32
   pub arm : armNumberOf p ≡ pos w
 
-pub middle-from : (p : Float) → T (not (lt p f0)) → T (lt p thirtyTwo) → (w : ℕ) → w ≡ toUnsigned 64 p → Middle p w
+pub middle-from : (p : Float) → T (not (lt p zero32)) → T (lt p thirtyTwo) → (w : ℕ) → w ≡ toUnsigned 64 p → Middle p w
 unfolding toUnsigned lt ofBits
 middle-from nan h k w q = absurd k
 middle-from (inf true) h k w q = absurd h
@@ -104,21 +104,21 @@ middle-from (fin false m e) h k w q =
     go a D k = omega arith
 
 -- ---- below 0: x is the phase's negative, c the smallest whole number that is not below x
-top16 : (m : ℕ) (e : ℤ) → In f0 sixteen (fin false m e) → m * up e ≤ down e * 16
+top16 : (m : ℕ) (e : ℤ) → In zero32 sixteen (fin false m e) → m * up e ≤ down e * 16
 unfolding ofBits
 top16 m e i = go (m * up e) (down e) (le→ (fin false m e) sixteen tt tt (i .upper))
   where
     go : (a D : ℕ) → a * 1 + 0 * D ≤ 1 * up (pos 4) * D + 0 * 1 → a ≤ D * 16
     go a D k = omega arith
 
-whole-is : (m : ℕ) (e : ℤ) → In f0 sixteen (fin false m e) → (m * up e / down e ≤ 16) × (toUnsigned 64 (fin false m e) ≡ m * up e / down e)
+whole-is : (m : ℕ) (e : ℤ) → In zero32 sixteen (fin false m e) → (m * up e / down e ≤ 16) × (toUnsigned 64 (fin false m e) ≡ m * up e / down e)
 unfolding toUnsigned
 whole-is m e i = let b : m * up e / down e ≤ 16 = div-le-of-le-mul (down e) (top16 m e i) in (b, cut (m * up e / down e) (omega arith))
 
-pub whole-most : (x : Float) → In f0 sixteen x → toUnsigned 64 x ≤ 16
+pub whole-most : (x : Float) → In zero32 sixteen x → toUnsigned 64 x ≤ 16
 unfolding toUnsigned ofBits
-whole-most nan i = absurd (in-finite f0 sixteen nan tt tt i)
-whole-most (inf s) i = absurd (in-finite f0 sixteen (inf s) tt tt i)
+whole-most nan i = absurd (in-finite zero32 sixteen nan tt tt i)
+whole-most (inf s) i = absurd (in-finite zero32 sixteen (inf s) tt tt i)
 whole-most (fin true m e) i = zero-le
 whole-most (fin false m e) i = let w = whole-is m e i in rw (w .1) (w .0)
 
@@ -195,14 +195,14 @@ module _ (a D w : ℕ) (e : w ≡ a / D) where
       rw r (let z : a / D + 0 ≡ w = omega arith in z)
 
 -- a zero with its sign
-pub minus-zero : (m : ℕ) (e : ℤ) → T (le f0 (fin true m e)) → m * up e ≡ 0
+pub minus-zero : (m : ℕ) (e : ℤ) → T (le zero32 (fin true m e)) → m * up e ≡ 0
 unfolding ofBits
-minus-zero m e h = go (m * up e) (down e) (le→ f0 (fin true m e) tt tt h)
+minus-zero m e h = go (m * up e) (down e) (le→ zero32 (fin true m e) tt tt h)
   where
     go : (a D : ℕ) → 0 * up (pos 0) * D + a * 1 ≤ 0 * 1 + 0 * D → a ≡ 0
     go a D k = omega arith
 
-module _ (x y : Float) (w : ℕ) (i : In f0 sixteen x) (e : w ≡ toUnsigned 64 x) (q : y ≡ ofInt binary32 (pos w)) where
+module _ (x y : Float) (w : ℕ) (i : In zero32 sixteen x) (e : w ≡ toUnsigned 64 x) (q : y ≡ ofInt binary32 (pos w)) where
   small : w ≤ 16
   small = rw e (whole-most x i)
 
@@ -213,10 +213,10 @@ ceiling-of : (m : ℕ) (d : ℤ) (c : ℕ) → c ≤ 16 → m * up d ≤ c * dow
 unfolding neg
 ceiling-of m d c h r e = record { most = h; reached = r; arm = arm-value true m d (rw e (omega arith)) ∙ ap (λ (n : ℕ). negℤ (pos n)) e }
 
-pub ceiling-up : (x y : Float) (w : ℕ) → In f0 sixteen x → w ≡ toUnsigned 64 x → y ≡ ofInt binary32 (pos w) → lt y x ≡ true → Ceiling x (w + 1)
+pub ceiling-up : (x y : Float) (w : ℕ) → In zero32 sixteen x → w ≡ toUnsigned 64 x → y ≡ ofInt binary32 (pos w) → lt y x ≡ true → Ceiling x (w + 1)
 unfolding ofBits
-ceiling-up nan y w i e q h = absurd (in-finite f0 sixteen nan tt tt i)
-ceiling-up (inf s) y w i e q h = absurd (in-finite f0 sixteen (inf s) tt tt i)
+ceiling-up nan y w i e q h = absurd (in-finite zero32 sixteen nan tt tt i)
+ceiling-up (inf s) y w i e q h = absurd (in-finite zero32 sixteen (inf s) tt tt i)
 ceiling-up (fin true m d) y w i e q h = absurd (none-below y w m d (near (fin true m d) y w i e q) (rw h tt))
 ceiling-up (fin false m d) y w i e q h =
     let l : w * down d < m * up d = near-lt y w m d (near (fin false m d) y w i e q) (rw h tt) in
@@ -225,10 +225,10 @@ ceiling-up (fin false m d) y w i e q h =
     fits : w * down d < m * up d → m * up d ≤ down d * 16 → w + 1 ≤ 16
     fits l u = ⊎-elim (λ (z : w < 16). omega arith) (λ (g : 16 ≤ w). let r : 16 * down d ≤ w * down d = mul-le-mul-right (down d) g in absurd (omega arith)) (lt-or-ge w 16)
 
-pub ceiling-not : (x y : Float) (w : ℕ) → In f0 sixteen x → w ≡ toUnsigned 64 x → y ≡ ofInt binary32 (pos w) → lt y x ≡ false → Ceiling x w
+pub ceiling-not : (x y : Float) (w : ℕ) → In zero32 sixteen x → w ≡ toUnsigned 64 x → y ≡ ofInt binary32 (pos w) → lt y x ≡ false → Ceiling x w
 unfolding ofBits neg toUnsigned
-ceiling-not nan y w i e q h = absurd (in-finite f0 sixteen nan tt tt i)
-ceiling-not (inf s) y w i e q h = absurd (in-finite f0 sixteen (inf s) tt tt i)
+ceiling-not nan y w i e q h = absurd (in-finite zero32 sixteen nan tt tt i)
+ceiling-not (inf s) y w i e q h = absurd (in-finite zero32 sixteen (inf s) tt tt i)
 ceiling-not (fin true m d) y w i e q h =
     let z = minus-zero m d (i .lower) in
     let n : downward false (m * up d) (down d) ≡ 0 = rw (z, zero-div (down d)) in

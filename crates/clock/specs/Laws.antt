@@ -12,6 +12,7 @@ use lib.ListN.{set}
 use lib.IntN.{ℤ, pos, natAbs, _+ℤ_, +ℤ-assoc}
 use lib.Ieee.{Float, binary32, ofBits, add, le}
 use borrow.Author.Tests.{lt-ltb, le-ltb, ltb-false}
+use Rattle.numbers.specs.Constants.{zero32}
 use Rattle.laws.specs.Turns.{turns, turns-end, until, until-stop, until-turn}
 use Rattle.laws.specs.Branches.{cond-yes, cond-no}
 use Rattle.laws.specs.Ring.{lt-or-ge}
@@ -23,8 +24,8 @@ use Rattle.clock.specs.declared.ClockPlace.{ClockPlace}
 use Rattle.clock.specs.declared.Due.{Due}
 use Rattle.clock.specs.declared.Due.the-variants.{NoSymbol, Symbol}
 use Rattle.clock.specs.declared.Stepped.{Stepped}
-use Rattle.clock.specs.Clock.{freshPlace, thirtyTwo, minus16, f48, turningOf, dropOne, droppedOf, negative, atLeast0, firstOf, waitingOf, timedWarmOf, takenOf, warmedOf, timedOf, windowsOf, Ticked, tickedOf, Run, runOf, steppedOf, tenth, minusTenth, Moving, moveTurn, movedOf, updatedOf}
-use Rattle.clock.specs.Ranges.{f0, PhaseFits, PhaseTurned, ErrorFits, Admitted, Taken, After}
+use Rattle.clock.specs.Clock.{freshPlace, thirtyTwo, minus16, f48, turningOf, dropOne, droppedOf, negative, atLeast0, firstOf, waitingOf, timedWarmOf, takenOf, warmedOf, timedOf, windowsOf, Ticked, tickedOf, ClockStep, withWindows, steppedOf, tenth, minusTenth, Moving, moveTurn, movedOf, updatedOf}
+use Rattle.clock.specs.Ranges.{PhaseFits, PhaseTurned, ErrorFits, Admitted, Taken, After}
 use Rattle.clock.specs.Ranged.{Same, Found, found}
 use Rattle.clock.specs.Update.{moved-fits}
 
@@ -169,7 +170,7 @@ taken-first c f w =
 turned-fits : (p : Float) → PhaseTurned p → PhaseFits p
 unfolding le ofBits
 turned-fits p (inl e) = inl e
-turned-fits p (inr i) = inr (in-wider f0 thirtyTwo minus16 f48 tt tt tt tt i)
+turned-fits p (inr i) = inr (in-wider zero32 thirtyTwo minus16 f48 tt tt tt tt i)
 
 kept-waiting : (c : ClockPlace) → Taken c → (n a : ℕ) → a ≤ 2 → n ≡ c .position + a - 1 → c .count < n + 73 → Admitted c
 kept-waiting c t n a k e l =
@@ -258,17 +259,17 @@ after-of c s f e = subst AfterAll (sym e) (timed-kept c f)
 
 module _ (taps derivatives : List Float) (c : ClockPlace) (z : Complex32) (re im : List Float) (before : Windows) (s : Stepped) (real imaginary : List Float)
     (e : _≡_ {A = Ticked} (record { stepped = s; real = real; imaginary = imaginary }) (tickedOf c z re im)) where
-  run-is : (w : Windows) → w ≡ windowsOf (s .due) taps derivatives real imaginary before
-      → _≡_ {A = Run} (record { stepped = s; real = real; imaginary = imaginary; windows = w }) (steppedOf taps derivatives c z re im before)
+  step-is : (w : Windows) → w ≡ windowsOf (s .due) taps derivatives real imaginary before
+      → _≡_ {A = ClockStep} (record { stepped = s; real = real; imaginary = imaginary; windows = w }) (steppedOf taps derivatives c z re im before)
   unfolding steppedOf tickedOf
-  run-is w h = ap (λ (w : Windows). record { stepped = s; real = real; imaginary = imaginary; windows = w }) h ∙ ap (λ (p : Ticked). runOf (p .stepped) taps derivatives (p .real) (p .imaginary) before) e
+  step-is w h = ap (λ (w : Windows). record { stepped = s; real = real; imaginary = imaginary; windows = w }) h ∙ ap (λ (p : Ticked). withWindows (p .stepped) taps derivatives (p .real) (p .imaginary) before) e
 
-  pub run-waiting : s .due ≡ NoSymbol → _≡_ {A = Run} (record { stepped = s; real = real; imaginary = imaginary; windows = before }) (steppedOf taps derivatives c z re im before)
-  run-waiting a = run-is before (ap (λ (a : Due). windowsOf a taps derivatives real imaginary before) (sym a))
+  pub step-waiting : s .due ≡ NoSymbol → _≡_ {A = ClockStep} (record { stepped = s; real = real; imaginary = imaginary; windows = before }) (steppedOf taps derivatives c z re im before)
+  step-waiting a = step-is before (ap (λ (a : Due). windowsOf a taps derivatives real imaginary before) (sym a))
 
-  pub run-symbol : (arm from : ℕ) (w : Windows) → s .due ≡ Symbol arm from → w ≡ matchedOf taps derivatives real imaginary arm from
-      → _≡_ {A = Run} (record { stepped = s; real = real; imaginary = imaginary; windows = w }) (steppedOf taps derivatives c z re im before)
-  run-symbol arm from w a h = run-is w (h ∙ ap (λ (a : Due). windowsOf a taps derivatives real imaginary before) (sym a))
+  pub step-symbol : (arm from : ℕ) (w : Windows) → s .due ≡ Symbol arm from → w ≡ matchedOf taps derivatives real imaginary arm from
+      → _≡_ {A = ClockStep} (record { stepped = s; real = real; imaginary = imaginary; windows = w }) (steppedOf taps derivatives c z re im before)
+  step-symbol arm from w a h = step-is w (h ∙ ap (λ (a : Due). windowsOf a taps derivatives real imaginary before) (sym a))
 
 -- the place and what is due turn on the place alone
 pub stepped-place : (taps derivatives : List Float) (c : ClockPlace) (z : Complex32) (re im : List Float) (before : Windows) → steppedOf taps derivatives c z re im before .stepped ≡ timedOf (takenOf c)

@@ -5,7 +5,7 @@ use denote.Ref.{now}
 use Rattle.laws.specs.Lent.{Lends}
 use Rattle.filter.specs.Filter.{Windows}
 use Rattle.clock.specs.declared.Stepped.{Stepped}
-use Rattle.clock.specs.Clock.{Ticked, Run}
+use Rattle.clock.specs.Clock.{Ticked, ClockStep}
 
 module _ (real imaginary : Lends Float) (r : Stepped) where
   -- Q of the ring as it is lent, part by part, and of what a sample leaves
@@ -14,7 +14,7 @@ module _ (real imaginary : Lends Float) (r : Stepped) where
 
 module _ (ringReal ringImaginary valueReal valueImaginary derivativeReal derivativeImaginary : Lends Float) (r : Stepped) where
   -- Q of the ring and the windows as they are lent, and of what a step leaves
-  abbrev pub leaves : (List Float → List Float → Windows → Run → Type 0) → Type 0
+  abbrev pub leaves : (List Float → List Float → Windows → ClockStep → Type 0) → Type 0
   leaves Q =
       Q
       (now (ringReal .entry)) (now (ringImaginary .entry))

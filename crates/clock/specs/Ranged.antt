@@ -10,12 +10,13 @@ use lib.Ieee.{Float, nan, inf, fin, binary32, ofBits, ofInt, add, sub, neg, lt, 
 use lib.Ieee.Bits.{is-true}
 use lib.Ieee.Fits.{down-pos}
 use borrow.Author.Tests.{le-ltb, le-leb, lt-leb}
+use Rattle.numbers.specs.Constants.{zero32}
 use Rattle.laws.specs.Turns.{until, until-stop, until-turn}
 use Rattle.laws.specs.FloatOrder.{le→, →le, lt→le, not-lt→le}
 use Rattle.laws.specs.FloatSums.{In, in-finite, add-in, sub-in, in-wider}
 use Rattle.clock.specs.declared.phase.Arm.{Arm}
 use Rattle.clock.specs.Clock.{armNumberOf, Turning, sixteen, thirtyTwo, minus16, f48, tooHigh, negative, lowered, raised, loweredOf, raisedOf, turningOf, rangedOf}
-use Rattle.clock.specs.Ranges.{f0, PhaseFits, PhaseTurned, Ceiling}
+use Rattle.clock.specs.Ranges.{PhaseFits, PhaseTurned, Ceiling}
 use Rattle.clock.specs.Floor.{arm-nan, High, high-from, middle-from, minus-zero, ceiling-up, ceiling-not}
 
 -- ---- the loops, by the arm
@@ -105,23 +106,23 @@ in-of : (p : Float) → PhaseFits p → (p ≡ nan → ⊥) → In minus16 f48 p
 in-of p (inl e) h = absurd (h e)
 in-of p (inr i) h = i
 
-from0 : (p : Float) → In minus16 f48 p → lt p f0 ≡ false → In f0 f48 p
+from0 : (p : Float) → In minus16 f48 p → lt p zero32 ≡ false → In zero32 f48 p
 unfolding ofBits
-from0 p i h = record { lower = not-lt→le p f0 (in-finite minus16 f48 p tt tt i) tt (not-is (lt p f0) h); upper = i .upper }
+from0 p i h = record { lower = not-lt→le p zero32 (in-finite minus16 f48 p tt tt i) tt (not-is (lt p zero32) h); upper = i .upper }
 
 -- ---- 0 to 32
-pub middle-in : (p : Float) → PhaseFits p → lt p f0 ≡ false → lt p thirtyTwo ≡ true → In f0 f48 p
+pub middle-in : (p : Float) → PhaseFits p → lt p zero32 ≡ false → lt p thirtyTwo ≡ true → In zero32 f48 p
 middle-in p r h k = from0 p (in-of p r (lt-not-nan p thirtyTwo k)) h
 
-pub same-middle : (p : Float) (w : ℕ) → PhaseFits p → lt p f0 ≡ false → lt p thirtyTwo ≡ true → w ≡ toUnsigned 64 p → Same p w 1 (turningOf p)
+pub same-middle : (p : Float) (w : ℕ) → PhaseFits p → lt p zero32 ≡ false → lt p thirtyTwo ≡ true → w ≡ toUnsigned 64 p → Same p w 1 (turningOf p)
 same-middle p w r h k e =
     let i = middle-in p r h k in
-    let m = middle-from p (not-is (lt p f0) h) (T-is (lt p thirtyTwo) k) w e in
+    let m = middle-from p (not-is (lt p zero32) h) (T-is (lt p thirtyTwo) k) w e in
     same-as p w 1 (pos 0) (turningOf p) (ranged-middle p w (m .arm) (m .most)) refl (m .most) (omega arith)
     (inr (record { lower = i .lower; upper = lt→le p thirtyTwo (T-is (lt p thirtyTwo) k) }))
 
 -- ---- 32 and up
-pub high-in : (p : Float) → PhaseFits p → lt p f0 ≡ false → le thirtyTwo p ≡ true → In f0 f48 p
+pub high-in : (p : Float) → PhaseFits p → lt p zero32 ≡ false → le thirtyTwo p ≡ true → In zero32 f48 p
 high-in p r h k = from0 p (in-of p r (le-not-nan thirtyTwo p k)) h
 
 pub high-is : (p : Float) (w : ℕ) → PhaseFits p → le thirtyTwo p ≡ true → w ≡ toUnsigned 64 p → High p w
@@ -137,20 +138,20 @@ same-high p w r k e =
     let n : In thirtyTwo f48 p = record { lower = T-is (le thirtyTwo p) k; upper = i .upper } in
     let a : In thirtyTwo thirtyTwo thirtyTwo = record { lower = tt; upper = tt } in
     same-as (sub binary32 p thirtyTwo) (w - 32) 2 (pos 1) (turningOf p) (ranged-high p w (u .arm) l (omega arith)) refl (omega arith) (omega arith)
-    (inr (in-wider (sub binary32 thirtyTwo thirtyTwo) (sub binary32 f48 thirtyTwo) f0 thirtyTwo tt tt tt tt (sub-in binary32 thirtyTwo f48 thirtyTwo thirtyTwo tt tt n a)))
+    (inr (in-wider (sub binary32 thirtyTwo thirtyTwo) (sub binary32 f48 thirtyTwo) zero32 thirtyTwo tt tt tt tt (sub-in binary32 thirtyTwo f48 thirtyTwo thirtyTwo tt tt n a)))
 
 -- ---- below 0
-pub neg-in : (p : Float) → PhaseFits p → lt p f0 ≡ true → In f0 sixteen (neg p)
+pub neg-in : (p : Float) → PhaseFits p → lt p zero32 ≡ true → In zero32 sixteen (neg p)
 unfolding lt neg ofBits
-neg-in p (inl e) h = absurd (lt-not-nan p f0 h e)
+neg-in p (inl e) h = absurd (lt-not-nan p zero32 h e)
 neg-in nan (inr i) h = absurd (in-finite minus16 f48 nan tt tt i)
 neg-in (inf s) (inr i) h = absurd (in-finite minus16 f48 (inf s) tt tt i)
-neg-in (fin false m e) (inr i) h = absurd (go (m * up e) (ltb→lt (m * up e * 1) (0 * up (pos 0) * down e) (T-is (lt (fin false m e) f0) h)))
+neg-in (fin false m e) (inr i) h = absurd (go (m * up e) (ltb→lt (m * up e * 1) (0 * up (pos 0) * down e) (T-is (lt (fin false m e) zero32) h)))
   where
     go : (a : ℕ) → a * 1 < 0 * up (pos 0) * down e → ⊥
     go a k = omega arith
 neg-in (fin true m e) (inr i) h = record {
-  lower = →le f0 (fin false m e) tt tt (low (m * up e) (down e));
+  lower = →le zero32 (fin false m e) tt tt (low (m * up e) (down e));
   upper = →le (fin false m e) sixteen tt tt (top (m * up e) (down e) (le→ minus16 (fin true m e) tt tt (i .lower)));
 }
   where
@@ -161,12 +162,12 @@ neg-in (fin true m e) (inr i) h = record {
     top a D k = omega arith
 
 -- the ceiling of a phase's negative is its arm, and is not 0
-low-arm : (p : Float) (c : ℕ) → lt p f0 ≡ true → PhaseFits p → Ceiling (neg p) c → (armNumberOf p ≡ negℤ (pos c)) × (1 ≤ c)
+low-arm : (p : Float) (c : ℕ) → lt p zero32 ≡ true → PhaseFits p → Ceiling (neg p) c → (armNumberOf p ≡ negℤ (pos c)) × (1 ≤ c)
 unfolding lt neg ofBits
-low-arm p c h (inl e) k = absurd (lt-not-nan p f0 h e)
+low-arm p c h (inl e) k = absurd (lt-not-nan p zero32 h e)
 low-arm nan c h (inr i) k = absurd (in-finite minus16 f48 nan tt tt i)
 low-arm (inf s) c h (inr i) k = absurd (in-finite minus16 f48 (inf s) tt tt i)
-low-arm (fin false m d) c h (inr i) k = absurd (go (m * up d) (ltb→lt (m * up d * 1) (0 * up (pos 0) * down d) (T-is (lt (fin false m d) f0) h)))
+low-arm (fin false m d) c h (inr i) k = absurd (go (m * up d) (ltb→lt (m * up d * 1) (0 * up (pos 0) * down d) (T-is (lt (fin false m d) zero32) h)))
   where
     go : (a : ℕ) → a * 1 < 0 * up (pos 0) * down d → ⊥
     go a k = omega arith
@@ -176,26 +177,26 @@ low-arm (fin true m d) c h (inr i) k = (k .arm, some c (k .reached))
     above a k = omega arith
 
     some : (c : ℕ) → m * up d ≤ c * down d → 1 ≤ c
-    some zero r = let a = above (m * up d) (ltb→lt 0 (m * up d * 1 + 0 * up (pos 0) * down d) (T-is (lt (fin true m d) f0) h)) in absurd (omega arith)
+    some zero r = let a = above (m * up d) (ltb→lt 0 (m * up d * 1 + 0 * up (pos 0) * down d) (T-is (lt (fin true m d) zero32) h)) in absurd (omega arith)
     some (suc c) r = omega arith
 
 neg-suc : (c : ℕ) → 1 ≤ c → negℤ (pos c) ≡ negsuc (c - 1)
 neg-suc zero h = absurd (omega arith)
 neg-suc (suc c) h = let e : suc c - 1 ≡ c = omega arith in rw e
 
-pub same-low : (p : Float) (c : ℕ) → PhaseFits p → lt p f0 ≡ true → Ceiling (neg p) c → Same (add binary32 p thirtyTwo) (32 - c) 0 (turningOf p)
+pub same-low : (p : Float) (c : ℕ) → PhaseFits p → lt p zero32 ≡ true → Ceiling (neg p) c → Same (add binary32 p thirtyTwo) (32 - c) 0 (turningOf p)
 unfolding ofBits add le
 same-low p c r h k =
-    let i = in-of p r (lt-not-nan p f0 h) in
+    let i = in-of p r (lt-not-nan p zero32 h) in
     let g = low-arm p c h r k in
     let l = g .1 in
     let u = k .most in
     let s : 31 - (c - 1) ≡ 32 - c = omega arith in
-    let n : In minus16 f0 p = record { lower = i .lower; upper = lt→le p f0 (T-is (lt p f0) h) } in
+    let n : In minus16 zero32 p = record { lower = i .lower; upper = lt→le p zero32 (T-is (lt p zero32) h) } in
     let a : In thirtyTwo thirtyTwo thirtyTwo = record { lower = tt; upper = tt } in
     same-as (add binary32 p thirtyTwo) (32 - c) 0 (negsuc 0) (turningOf p)
     (ranged-low p (c - 1) (g .0 ∙ neg-suc c l) (omega arith) ∙ ap (λ (z : ℕ). at (add binary32 p thirtyTwo) (pos z) (negsuc 0)) s) refl (omega arith) (omega arith)
-    (inr (in-wider (add binary32 minus16 thirtyTwo) (add binary32 f0 thirtyTwo) f0 thirtyTwo tt tt tt tt (add-in binary32 minus16 f0 thirtyTwo thirtyTwo tt tt n a)))
+    (inr (in-wider (add binary32 minus16 thirtyTwo) (add binary32 zero32 thirtyTwo) zero32 thirtyTwo tt tt tt tt (add-in binary32 minus16 zero32 thirtyTwo thirtyTwo tt tt n a)))
 
 -- ---- NaN
 pub same-nan : (p : Float) → PhaseFits p → lt p thirtyTwo ≡ false → le thirtyTwo p ≡ false → Same p 0 1 (turningOf p)
@@ -214,9 +215,9 @@ found-as : (q p : Float) (arm ahead : ℕ) → Same p arm ahead (turningOf q) �
 found-as q p arm ahead s = record { phase = p; arm = arm; ahead = ahead; same = s }
 
 pub found : (q : Float) → PhaseFits q → Found q
-found q r = low (lt q f0) refl
+found q r = low (lt q zero32) refl
   where
-    ceiled : (b : Bool) → lt (ofInt binary32 (pos (toUnsigned 64 (neg q)))) (neg q) ≡ b → lt q f0 ≡ true → Found q
+    ceiled : (b : Bool) → lt (ofInt binary32 (pos (toUnsigned 64 (neg q)))) (neg q) ≡ b → lt q zero32 ≡ true → Found q
     ceiled true e h = found-as q _ _ _ (same-low q _ r h (ceiling-up (neg q) _ _ (neg-in q r h) refl refl e))
     ceiled false e h = found-as q _ _ _ (same-low q _ r h (ceiling-not (neg q) _ _ (neg-in q r h) refl refl e))
 
@@ -224,11 +225,11 @@ found q r = low (lt q f0) refl
     top true e h = found-as q _ _ _ (same-high q _ r e refl)
     top false e h = found-as q _ _ _ (same-nan q r h e)
 
-    middle : (b : Bool) → lt q thirtyTwo ≡ b → lt q f0 ≡ false → Found q
+    middle : (b : Bool) → lt q thirtyTwo ≡ b → lt q zero32 ≡ false → Found q
     middle true e h = found-as q _ _ _ (same-middle q _ r h e refl)
     middle false e h = top (le thirtyTwo q) refl e
 
-    low : (b : Bool) → lt q f0 ≡ b → Found q
+    low : (b : Bool) → lt q zero32 ≡ b → Found q
     low true e = ceiled (lt (ofInt binary32 (pos (toUnsigned 64 (neg q)))) (neg q)) refl e
     low false e = middle (lt q thirtyTwo) refl e
 
@@ -251,10 +252,10 @@ ranged-done q r =
     (ap tooHigh (f .same .arms) ∙ lt-leb 32 (f .arm) (omega arith), ap negative (f .same .arms))
 
 -- ---- a value in 0..48 may be truncated to a whole number
-pub truncates : (x : Float) → In f0 f48 x → T (lt (fin true 1 (pos 0)) x) × T (lt x (fin false 1 (pos 64)))
+pub truncates : (x : Float) → In zero32 f48 x → T (lt (fin true 1 (pos 0)) x) × T (lt x (fin false 1 (pos 64)))
 unfolding ofBits lt
-truncates nan i = absurd (in-finite f0 f48 nan tt tt i)
-truncates (inf s) i = absurd (in-finite f0 f48 (inf s) tt tt i)
+truncates nan i = absurd (in-finite zero32 f48 nan tt tt i)
+truncates (inf s) i = absurd (in-finite zero32 f48 (inf s) tt tt i)
 truncates (fin true m e) i = go (m * up e) (down e) (down-pos e) (minus-zero m e (i .lower))
   where
     go : (a D : ℕ) → 0 < D → a ≡ 0 → T (ltb (a * 1) (1 * D)) × T (ltb 0 (a * 1 + 2 ^ 64 * D))
@@ -264,6 +265,6 @@ truncates (fin false m e) i = go (m * up e) (down e) (down-pos e) (le→ (fin fa
     go : (a D : ℕ) → 0 < D → a * 1 + 0 * D ≤ 3 * up (pos 4) * D + 0 * 1 → T (ltb 0 (1 * D + a * 1)) × T (ltb (a * 1) (2 ^ 64 * D))
     go a D d l = (lt→ltb 0 (1 * D + a * 1) (omega arith), lt→ltb (a * 1) (2 ^ 64 * D) (omega arith))
 
-pub within48 : (x : Float) → In f0 sixteen x → In f0 f48 x
+pub within48 : (x : Float) → In zero32 sixteen x → In zero32 f48 x
 unfolding ofBits le
-within48 x i = in-wider f0 sixteen f0 f48 tt tt tt tt i
+within48 x i = in-wider zero32 sixteen zero32 f48 tt tt tt tt i

@@ -4,9 +4,10 @@ use mathlib.Core.Path.{_≡_}
 use mathlib.Core.Logic.{_⊎_}
 use mathlib.Core.Bool.{true, false}
 use lib.IntN.{pos, negℤ}
-use lib.Ieee.{Float, nan, binary32, ofBits, neg}
+use lib.Ieee.{Float, nan, neg}
 use lib.Ieee.Positive.{num, den}
 use Rattle.laws.specs.FloatSums.{In}
+use Rattle.numbers.specs.Constants.{one32, minusOne32, zero32}
 use Rattle.clock.specs.Clock.{armNumberOf, thirtyTwo, tenth, minusTenth, minus16, f48}
 use Rattle.clock.specs.declared.ClockPlace.{ClockPlace}
 use Rattle.clock.specs.declared.Due.{Due}
@@ -15,27 +16,18 @@ use Rattle.clock.specs.declared.Due.the-variants.{NoSymbol, Symbol}
 abbrev pub Within : Float → Float → Float → Type 0
 Within low high x = (x ≡ nan) ⊎ In low high x
 
-abbrev pub f0 : Float
-f0 = ofBits binary32 0x00000000  -- 0
-
-abbrev pub minusOne : Float
-minusOne = ofBits binary32 0xbf800000  -- -1
-
-abbrev pub one32 : Float
-one32 = ofBits binary32 0x3f800000  -- 1
-
 -- a phase that is admitted; one that is in range; a rate; a timing error
 abbrev pub PhaseFits : Float → Type 0
 PhaseFits = Within minus16 f48
 
 abbrev pub PhaseTurned : Float → Type 0
-PhaseTurned = Within f0 thirtyTwo
+PhaseTurned = Within zero32 thirtyTwo
 
 abbrev pub RateFits : Float → Type 0
 RateFits = Within minusTenth tenth
 
 abbrev pub ErrorFits : Float → Type 0
-ErrorFits = Within minusOne one32
+ErrorFits = Within minusOne32 one32
 
 -- `admittedOf` as facts
 pub record Admitted (c : ClockPlace) : Type 0 where

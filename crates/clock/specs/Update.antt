@@ -3,19 +3,19 @@
 use Prim.Native.Nat.{ℕ, zero, suc}
 use mathlib.Core.Path.{_≡_, refl, ap}
 use mathlib.Core.Logic.{_⊎_, inl, inr}
-use mathlib.Core.Bool.{Bool, true, false, not, cond}
+use mathlib.Core.Bool.{Bool, true, false}
 use lib.IntN.{pos, negsuc}
 use lib.Dec.{T}
 use lib.Ieee.{Float, nan, inf, fin, Format, binary32, ofBits, add, mul, div, lt, le}
-use lib.Ieee.Fits.{and-l, and-r}
-use lib.Ieee.Scale.{finite}
+use Rattle.numbers.specs.Constants.{zero32}
 use Rattle.laws.specs.Turns.{turns}
-use Rattle.laws.specs.FloatOrder.{le-self, not-lt→le}
+use Rattle.laws.specs.FloatOrder.{lt-nan}
 use Rattle.laws.specs.FloatSums.{In, ends, in-finite, add-in, in-wider}
 use Rattle.laws.specs.FloatProducts.{mul-in}
 use Rattle.numbers.specs.Numbers.{clampOf}
+use Rattle.numbers.specs.Clamped.{clamp-in}
 use Rattle.clock.specs.Clock.{thirtyTwo, minus16, f48, alpha, beta, tenth, minusTenth, Moving, moveTurn, movedOf}
-use Rattle.clock.specs.Ranges.{f0, PhaseFits, PhaseTurned, RateFits, ErrorFits}
+use Rattle.clock.specs.Ranges.{PhaseFits, PhaseTurned, RateFits, ErrorFits}
 
 -- ---- the constants: BW = 0.01, DENOMINATOR = 1 + 128 BW + BW BW, ALPHA = 256 BW / DENOMINATOR, BETA = 4 BW BW / DENOMINATOR, in f32
 unfoldable pub bandwidth : Float
@@ -34,28 +34,7 @@ pub beta-is : beta ≡ div binary32 (mul binary32 (mul binary32 (fin false 1 (po
 unfolding denominator bandwidth ofBits add mul div
 beta-is = refl
 
--- ---- a clamp holds a finite value between its ends, and keeps a NaN
-clamp-in : (a b x : Float) → T (finite x) → T (ends a b) → T (le a b) → In a b (clampOf x a b)
-unfolding clampOf
-clamp-in a b x X p o = go (lt x a) (lt b x) (not-lt→le x a X A) (not-lt→le b x B X)
-  where
-    A : T (finite a)
-    A = and-l (finite a) (finite b) p
-
-    B : T (finite b)
-    B = and-r (finite a) (finite b) p
-
-    go : (s t : Bool) → (T (not s) → T (le a x)) → (T (not t) → T (le x b)) → In a b (cond s a (cond t b x))
-    go true t h k = record { lower = le-self a A; upper = o }
-    go false true h k = record { lower = o; upper = le-self b B }
-    go false false h k = record { lower = h tt; upper = k tt }
-
-pub lt-nan : (x : Float) → lt x nan ≡ false
-unfolding lt
-lt-nan nan = refl
-lt-nan (inf s) = refl
-lt-nan (fin s m e) = refl
-
+-- ---- a clamp keeps a NaN
 clamp-nan : (x a b : Float) → x ≡ nan → clampOf x a b ≡ nan
 unfolding clampOf lt
 clamp-nan x a b e = rw (e, lt-nan b)
@@ -99,13 +78,13 @@ turn-in n a b n' a' b' t3 t4 t5 t6 t7 t8 t9 e i k m h =
       phases = in-wider (phaseEnd true a n') (phaseEnd false b n') (eighth true a') (eighth false b') t7 tt t8 t9 (add-in binary32 (eighth true a) (eighth false b) (moveEnd true n') (moveEnd false n') tt t6 (h .phases) q);
     }
 
-moved-in : (e : Float) (m : Moving) → In (one true) (one false) e → In minusTenth tenth (m .rate) → In f0 thirtyTwo (m .phase)
+moved-in : (e : Float) (m : Moving) → In (one true) (one false) e → In minusTenth tenth (m .rate) → In zero32 thirtyTwo (m .phase)
     → In minusTenth tenth (clampOf (movedOf e m .rate) minusTenth tenth) × In minus16 f48 (movedOf e m .phase)
 unfolding movedOf turns ofBits add mul le
 moved-in e m i r p =
     let k0 : Near 103 1 257 (record { rate = m .rate; phase = add binary32 (m .phase) (m .rate) }) = record {
       rates = in-wider minusTenth tenth (fine true 103) (fine false 103) tt tt tt tt r;
-      phases = in-wider (add binary32 f0 minusTenth) (add binary32 thirtyTwo tenth) (eighth true 1) (eighth false 257) tt tt tt tt (add-in binary32 f0 thirtyTwo minusTenth tenth tt tt p r);
+      phases = in-wider (add binary32 zero32 minusTenth) (add binary32 thirtyTwo tenth) (eighth true 1) (eighth false 257) tt tt tt tt (add-in binary32 zero32 thirtyTwo minusTenth tenth tt tt p r);
     } in
     let k1 = turn-in 103 1 257 104 11 267 tt tt tt tt tt tt tt e i 0 _ k0 in
     let k2 = turn-in 104 11 267 105 21 277 tt tt tt tt tt tt tt e i 1 _ k1 in
@@ -153,7 +132,7 @@ both-nan e m h = (inl (clamp-nan (movedOf e m .rate) minusTenth tenth h), inl (p
 -- the new rate does not turn on the phase
 rate-alone : (e : Float) (m : Moving) → In (one true) (one false) e → In minusTenth tenth (m .rate) → In minusTenth tenth (clampOf (movedOf e m .rate) minusTenth tenth)
 unfolding movedOf turns ofBits le
-rate-alone e m i r = moved-in e (record { rate = m .rate; phase = f0 }) i r (record { lower = tt; upper = tt }) .0
+rate-alone e m i r = moved-in e (record { rate = m .rate; phase = zero32 }) i r (record { lower = tt; upper = tt }) .0
 
 pub moved-fits : (e : Float) (m : Moving) → ErrorFits e → RateFits (m .rate) → PhaseTurned (m .phase) → RateFits (clampOf (movedOf e m .rate) minusTenth tenth) × PhaseFits (movedOf e m .phase)
 unfolding movedOf turns ofBits

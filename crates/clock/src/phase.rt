@@ -4,9 +4,10 @@ ghost use mathlib.Core.Path.{_≡_};
 ghost use mathlib.Core.Bool.{true};
 ghost use Prim.Native.Nat.{_≤_};
 ghost use lib.Ieee as Ieee;
+ghost use Rattle.numbers.specs.Constants.{zero32};
 ghost use Rattle.laws.specs.FloatSums.{In};
 ghost use Rattle.clock.specs.Clock.{sixteen, rangedOf};
-ghost use Rattle.clock.specs.Ranges.{PhaseFits, f0, Ceiling};
+ghost use Rattle.clock.specs.Ranges.{PhaseFits, Ceiling};
 
 // A phase in 0..=32 or NaN, its arm, and whether the window stands a sample back (0), where it stood
 // (1), or a sample on (2).
@@ -18,7 +19,7 @@ pub struct Arm {
 
 // The smallest whole number that is not below x, for x in 0..=16.
 fn ceiling(x: f32) -> usize
-    requires { ⌜ In f0 sixteen x ⌝ }
+    requires { ⌜ In zero32 sixteen x ⌝ }
     ensures { λ r. ⌜ Ceiling x r ⌝ }
 {
     let whole = std::num::truncating_f32_to_u64(x);
@@ -31,7 +32,7 @@ fn ceiling(x: f32) -> usize
 
 // Brings a phase in -16..0 into range: it is raised by a turn of 32 arms.
 fn ranged_below(phase: f32) -> Arm
-    requires { ⌜ PhaseFits phase ⌝ ∗ ⌜ Ieee.lt phase f0 ≡ true ⌝ }
+    requires { ⌜ PhaseFits phase ⌝ ∗ ⌜ Ieee.lt phase zero32 ≡ true ⌝ }
     ensures same { λ r. ⌜ r ≡ rangedOf phase ⌝ }
     ensures few { λ r. ⌜ r .ahead ≤ 2 ⌝ }
 {

@@ -1,1 +1,3 @@
 pub mod Complex
+pub mod Planes
+pub mod Lends

@@ -6,11 +6,12 @@ use mathlib.Core.List.{List, [], _∷_, map}
 use lib.IntN.{ℤ, pos, negsuc, negℤ}
 use lib.Ieee.{Float, nan, inf, fin, mul, ofBits, toSigned}
 use Rattle.laws.specs.Places.{upto}
-use Rattle.numbers.specs.Numbers.{wholeOf}
+use Rattle.laws.specs.Modulo.{modulo}
+use Rattle.whole.specs.Whole.{wholeOf}
 use Rattle.decimator.specs.declared.Counts.{Counts}
 use Rattle.decimator.specs.declared.RawOutput.{RawOutput}
 use Rattle.decimator.specs.declared.RawOutput.the-variants.{Silent, Sum}
-use Rattle.decimator.specs.Decimator.{quantisedOf, freshOf, modulo, integratedOf, combedOf, advancedOf, rawOutputsOf}
+use Rattle.decimator.specs.Decimator.{quantisedOf, freshOf, integratedOf, combedOf, advancedOf, rawOutputsOf}
 use Rattle.decimator.specs.Demand.{weight}
 
 -- one number in both parts, and the sums among a row's raw outputs

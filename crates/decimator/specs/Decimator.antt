@@ -1,14 +1,17 @@
 -- The decimator: the quantiser, three integrators for each sample and three combs at every d-th, and the scale of what comes out. Definitions only.
 use mathlib.Core.Path.{_≡_}
-use Prim.Native.Nat.{ℕ, suc, _+_, _-_, _%_, _^_, _≤_, _<_}
+use Prim.Native.Nat.{ℕ, _+_, _-_, _%_, _^_, _≤_, _<_}
 use mathlib.Core.Bool.{Bool, cond, _&&_}
 use mathlib.Core.List.{List, [], _∷_}
 use lib.Dec.{leb, ltb}
-use lib.IntN.{ℤ, pos, negsuc}
+use lib.IntN.{ℤ, pos}
 use lib.Ieee.{Float, binary32, binary64, ofBits, ofInt, toSigned, mul, div}
+use Rattle.numbers.specs.Constants.{one64}
+use Rattle.laws.specs.Modulo.{modulo}
 use Rattle.complex.specs.declared.Complex32.{Complex32}
 use Rattle.numbers.specs.Bits.{signedOf}
-use Rattle.numbers.specs.Numbers.{wholeOf, away, convert}
+use Rattle.numbers.specs.Numbers.{convert}
+use Rattle.whole.specs.Whole.{wholeOf, away}
 use Rattle.decimator.specs.declared.Sums.{Sums}
 use Rattle.decimator.specs.declared.Delays.{Delays}
 use Rattle.decimator.specs.declared.Integrators.{Integrators}
@@ -24,9 +27,6 @@ use Rattle.decimator.specs.declared.Output.{Output}
 use Rattle.decimator.specs.declared.Output.the-variants.{Nothing, Value}
 use Rattle.decimator.specs.declared.Step.{Step}
 
-abbrev pub one64 : Float
-one64 = ofBits binary64 0x3ff0_0000_0000_0000  -- 1
-
 -- so many whole numbers from 0 to a part of 1
 abbrev pub unit : Float
 unit = ofBits binary64 0x40e0_0000_0000_0000  -- 32768
@@ -40,11 +40,6 @@ abbrev pub countsOf : Complex32 → Counts
 countsOf z = record { real = quantisedOf (z .real); imaginary = quantisedOf (z .imaginary) }
 
 -- ---- sums and differences modulo 2 ^ 64
-
--- z modulo m: the number below m that differs from z by a multiple of m
-unfoldable pub modulo : ℕ → ℤ → ℕ
-modulo m (pos n) = n % m
-modulo m (negsuc n) = m - suc (n % m)
 
 abbrev pub wrapAdd : ℕ → ℕ → ℕ
 wrapAdd a b = (a + b) % 2 ^ 64

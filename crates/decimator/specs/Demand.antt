@@ -6,11 +6,11 @@ use lib.Dec.{eqb, leb}
 use lib.IntN.{ℤ, pos, _+ℤ_, _*ℤ_}
 use lib.ListN.{length, getD}
 use Rattle.laws.specs.Places.{upto}
+use Rattle.laws.specs.Modulo.{modulo}
 use Rattle.decimator.specs.declared.Counts.{Counts}
 use Rattle.decimator.specs.declared.RawOutput.{RawOutput}
 use Rattle.decimator.specs.declared.RawOutput.the-variants.{Silent, Sum}
 use Rattle.numbers.specs.Bits.{signedOf}
-use Rattle.decimator.specs.Decimator.{modulo}
 
 -- f 0 + f 1 + .. + f (n - 1)
 unfoldable pub sumN : ℕ → (ℕ → ℕ) → ℕ

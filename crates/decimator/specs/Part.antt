@@ -7,10 +7,11 @@ use mathlib.Core.Path.{_≡_, refl, sym, ap, ap₂, _∙_}
 use mathlib.Core.List.{List, [], _∷_}
 use lib.IntN.{ℤ, pos, _+ℤ_, _-ℤ_, +ℤ-idl, +ℤ-comm, -ℤ-+ℤ-cancel}
 use lib.ListN.{getD, drop}
+use Rattle.laws.specs.Modulo.{modulo}
 use Rattle.decimator.specs.declared.Sums.{Sums}
 use Rattle.decimator.specs.declared.Delays.{Delays}
 use Rattle.numbers.specs.Bits.{signedOf}
-use Rattle.decimator.specs.Decimator.{modulo, wrapAdd, wrapSub, integratedOf, combedOf}
+use Rattle.decimator.specs.Decimator.{wrapAdd, wrapSub, integratedOf, combedOf}
 use Rattle.decimator.specs.Demand.{weighted, wrapped}
 use Rattle.decimator.specs.Boxes.{newest, total, box, Total, total-is, total-box, box-total, boxes, weighted-is}
 use Rattle.decimator.specs.Residues.{wrap-add, wrap-sub}
@@ -47,7 +48,7 @@ pub record Summed (h : List ℤ) (s : Sums) : Type 0 where
   pub third-sum : s .third ≡ bits (thrice h)
 
 -- what one part holds after the history h, the last output being `since` samples old: of the delays, what the last `level` outputs have renewed
-pub record Kept (d level since : ℕ) (h : List ℤ) (s : Sums) (y : Delays) : Type 0 where
+pub record PartHolds (d level since : ℕ) (h : List ℤ) (s : Sums) (y : Delays) : Type 0 where
   pub sums : Summed h s
   pub first-delay : 1 ≤ level → y .first ≡ bits (thrice (drop since h))
   pub second-delay : 2 ≤ level → y .second ≡ bits (box d twice (drop since h))
@@ -61,7 +62,7 @@ grows {g} {f} t x h a b p q = ap₂ wrapAdd p q ∙ wrap-add (g h) (f (x ∷ h))
 combs : {g f : List ℤ → ℤ} → Total g f → (d : ℕ) (h l : List ℤ) (a b : ℕ) → drop d h ≡ l → a ≡ bits (g h) → b ≡ bits (g l) → wrapSub a b ≡ bits (box d f h)
 combs {g} {f} t d h l a b e p q = ap₂ wrapSub p (q ∙ ap (λ (k : List ℤ). bits (g k)) (sym e)) ∙ wrap-sub (g h) (g (drop d h)) (box d f h) (total-box t d h)
 
-module _ (d level since : ℕ) (h : List ℤ) (s : Sums) (y : Delays) (k : Kept d level since h s y) (x : ℤ) where
+module _ (d level since : ℕ) (h : List ℤ) (s : Sums) (y : Delays) (k : PartHolds d level since h s y) (x : ℤ) where
   summed : Summed (x ∷ h) (integratedOf s x)
   unfolding integratedOf
   summed =
@@ -71,7 +72,7 @@ module _ (d level since : ℕ) (h : List ℤ) (s : Sums) (y : Delays) (k : Kept 
       let pb : b ≡ bits (twice (x ∷ h)) = grows twice-total x h (s .second) a (k .sums .second-sum) pa in
       record { first-sum = pa; second-sum = pb; third-sum = grows thrice-total x h (s .third) b (k .sums .third-sum) pb }
 
-  pub kept-silent : Kept d level (since + 1) (x ∷ h) (integratedOf s x) y
+  pub kept-silent : PartHolds d level (since + 1) (x ∷ h) (integratedOf s x) y
   kept-silent =
       let e : since + 1 ≡ suc since = add-one since in
       record {
@@ -103,7 +104,7 @@ module _ (d level since : ℕ) (h : List ℤ) (s : Sums) (y : Delays) (k : Kept 
     third-comb : 3 ≤ level → wrapSub b (y .third) ≡ bits (box d (box d (box d newest)) (x ∷ h))
     third-comb l = combs (box-total (box-total once-total d) d) d (x ∷ h) (drop since h) b (y .third) ago-d (second-comb (omega arith)) (k .third-delay l)
 
-    pub kept-sounded : Kept d (suc level) 0 (x ∷ h) (integratedOf s x) (combedOf y (integratedOf s x .third) .delays)
+    pub kept-sounded : PartHolds d (suc level) 0 (x ∷ h) (integratedOf s x) (combedOf y (integratedOf s x .third) .delays)
     unfolding combedOf a b
     kept-sounded = record {
       sums = summed;
@@ -123,7 +124,7 @@ zero-bits : (z : ℤ) → z ≡ pos 0 → 0 ≡ bits z
 unfolding modulo
 zero-bits z e = ap bits (sym e)
 
-pub kept-fresh : (d : ℕ) → Kept d 3 0 [] (record { first = 0; second = 0; third = 0 }) (record { first = 0; second = 0; third = 0 })
+pub kept-fresh : (d : ℕ) → PartHolds d 3 0 [] (record { first = 0; second = 0; third = 0 }) (record { first = 0; second = 0; third = 0 })
 kept-fresh d = record {
   sums = record {
     first-sum = zero-bits (once []) (once-total .none-yet);
@@ -210,7 +211,7 @@ module _ (s : Sums) where
   unfolding modulo
   own-bits n z l e = sym (mod-eq-of-lt l) ∙ ap bits (sym e)
 
-  pub kept-any : (d since : ℕ) (y : Delays) → Words s → Kept d 0 since (latest ∷ middle ∷ oldest ∷ []) s y
+  pub kept-any : (d since : ℕ) (y : Delays) → Words s → PartHolds d 0 since (latest ∷ middle ∷ oldest ∷ []) s y
   unfolding p q r
   kept-any d since y k = record {
     sums = record {

@@ -23,9 +23,9 @@ use Rattle.laws.specs.FloatPack.{shifted}
 use Rattle.laws.specs.FloatRounding.{round-neg, round-zero}
 use Rattle.laws.specs.FloatValues.{round-id}
 use Rattle.laws.specs.Ring.{lt-or-ge}
-use Rattle.numbers.specs.Numbers.{wholeOf, away}
+use Rattle.whole.specs.Whole.{wholeOf, away}
 use Rattle.patterns.specs.Shift.{near-lt, near-gt}
-use Rattle.numbers.proofs.ToWhole.{away-is, whole-value}
+use Rattle.whole.proofs.ToWhole.{away-is, whole-value}
 use Rattle.decimator.specs.Decimator.{quantisedOf}
 
 -- ---- a sum by the values of its terms

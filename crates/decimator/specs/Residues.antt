@@ -10,8 +10,9 @@ use lib.Pow.{pow-pos}
 use lib.IntN.{ℤ, pos, negsuc, subℕ, natAbs, _+ℤ_}
 use lib.Signed.{mag}
 use borrow.Author.Tests.{lt-ltb, le-ltb}
+use Rattle.laws.specs.Modulo.{modulo}
 use Rattle.numbers.specs.Bits.{signedOf}
-use Rattle.decimator.specs.Decimator.{modulo, wrapAdd, wrapSub}
+use Rattle.decimator.specs.Decimator.{wrapAdd, wrapSub}
 use Rattle.decimator.specs.Demand.{wrapped}
 
 -- z is `up z` - `down z`

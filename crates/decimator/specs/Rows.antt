@@ -20,7 +20,7 @@ use Rattle.decimator.specs.Decimator.{absorbedOf, silentOf, soundedOf, a
 use Rattle.decimator.specs.Demand.{weighted, wrapped, noCounts}
 use Rattle.decimator.specs.Boxes.{weighted-same}
 use Rattle.decimator.specs.Past.{past}
-use Rattle.decimator.specs.Part.{Kept, kept-silent, kept-sounded, sounded-value}
+use Rattle.decimator.specs.Part.{PartHolds, kept-silent, kept-sounded, sounded-value}
 
 -- ---- both parts
 abbrev reals : List Counts → List ℤ
@@ -33,8 +33,8 @@ imaginaries h = map (λ (n : Counts). n .imaginary) h
 pub record Holds (d level : ℕ) (h : List Counts) (s : Decimator) : Type 0 where
   pub by : s .decimation ≡ d
   pub early : s .counter < d
-  pub real-part : Kept d level (s .counter) (reals h) (s .integrators .real) (s .combs .real)
-  pub imaginary-part : Kept d level (s .counter) (imaginaries h) (s .integrators .imaginary) (s .combs .imaginary)
+  pub real-part : PartHolds d level (s .counter) (reals h) (s .integrators .real) (s .combs .real)
+  pub imaginary-part : PartHolds d level (s .counter) (imaginaries h) (s .integrators .imaginary) (s .combs .imaginary)
 
 -- the raw output that the history h asks for
 unfoldable pub said : ℕ → List Counts → RawOutput

@@ -9,11 +9,12 @@ use lib.IntN.{ℤ, pos, negsuc}
 use lib.Ieee.{binary64, inFloat}
 use lib.Signed.{mag, ltZ}
 use borrow.Author.Tests.{ltb-true}
+use Rattle.laws.specs.Modulo.{modulo}
 use Rattle.numbers.specs.Bits.{signedOf, unsignedOf}
 use Rattle.decimator.specs.declared.Sums.{Sums}
 use Rattle.decimator.specs.declared.Delays.{Delays}
 use Rattle.decimator.specs.declared.Difference.{Difference}
-use Rattle.decimator.specs.Decimator.{modulo, wrapAdd, wrapSub, integratedOf, combedOf}
+use Rattle.decimator.specs.Decimator.{wrapAdd, wrapSub, integratedOf, combedOf}
 use Rattle.decimator.specs.Residues.{only-one}
 
 -- the bits of a signed 64-bit number are the number modulo 2 ^ 64

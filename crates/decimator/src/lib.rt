@@ -11,10 +11,10 @@ use complex::Complex32;
 use numbers::bits::signed;
 use numbers::bits::unsigned;
 use numbers::narrow::narrow;
-use numbers::whole::from_i64;
 use quantiser::quantised;
 use std::num::wrapping_add_u64;
 use std::num::wrapping_sub_u64;
+use whole::from_i64;
 
 mod quantiser;
 

@@ -4,7 +4,7 @@ ghost use mathlib.Core.Bool.{true, false};
 ghost use Rattle.decimator.specs.Decimator.{quantisedOf};
 ghost use Rattle.decimator.specs.Quantiser.{within};
 use numbers::narrow::widen;
-use numbers::whole::to_i64;
+use whole::to_i64;
 
 fn is_within(x: f32) -> bool
     ensures { λ r. ⌜ r ≡ within x ⌝ }

@@ -4,9 +4,9 @@ use mathlib.Core.Bool.{Bool, true}
 use mathlib.Core.List.{List}
 use lib.Ieee.{Float}
 use Rattle.complex.specs.declared.Complex32.{Complex32}
-use Rattle.tracker.specs.Tracker.{Planes}
-use Rattle.sequence.specs.declared.soft.Soft.{Soft}
-use Rattle.sequence.specs.declared.walk.Answer.{Answer}
+use Rattle.complex.specs.Planes.{Planes}
+use Rattle.answers.specs.declared.soft.Soft.{Soft}
+use Rattle.answers.specs.declared.walk.Answer.{Answer}
 use Rattle.carrier.specs.declared.Carried.{Carried}
 use Rattle.carrier.specs.Carrier as Carrier
 use Rattle.signal.specs.declared.ViewPlace.{ViewPlace}
@@ -52,7 +52,7 @@ pub record Step : Type 0 where
   pub soft : Soft
   pub answer : Answer
 
-abbrev pub decidedWith : Stepped → Carrier.Run → Signal.View → Step
+abbrev pub decidedWith : Stepped → Carrier.CarrierStep → Signal.View → Step
 decidedWith d c v = record {
   state = record { place = d .place; channels = c .channels; costs = c .costs; parents = c .parents; view = record { real = v .real; imaginary = v .imaginary } };
   soft = d .soft;

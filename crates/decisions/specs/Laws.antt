@@ -12,11 +12,11 @@ use lib.Seq.{length-sets}
 use lib.Ieee.{Float}
 use Rattle.laws.specs.Turns.{turns, turns-start, turns-step}
 use Rattle.complex.specs.declared.Complex32.{Complex32}
-use Rattle.tracker.specs.Tracker.{pointAt}
-use Rattle.sequence.specs.declared.soft.Soft.{Soft}
-use Rattle.sequence.specs.declared.walk.Answer.{Answer}
-use Rattle.sequence.specs.declared.walk.Answer.the-variants.{Silent, Dibit}
-use Rattle.sequence.specs.Observed.{slotOf, recordBefore}
+use Rattle.complex.specs.Planes.{pointAt}
+use Rattle.answers.specs.declared.soft.Soft.{Soft}
+use Rattle.answers.specs.declared.walk.Answer.{Answer}
+use Rattle.answers.specs.declared.walk.Answer.the-variants.{Silent, Dibit}
+use Rattle.answers.specs.Observed.{slotOf, recordBefore}
 use Rattle.carrier.specs.declared.Carried.{Carried}
 use Rattle.carrier.specs.Carrier as Carrier
 use Rattle.carrier.specs.Laws.{carried-ranged}
@@ -39,7 +39,7 @@ pub told-is : (p : DecisionsPlace) (c : Carried) (view : ViewPlace) (symbols loc
 unfolding toldOf
 told-is p c view symbols locked rearranged label profile q s l b e = rw (s, l, e, b, q)
 
-pub decided-is : (s : DecisionsState) (z : Complex32) (reliable : Bool) (oldest : Soft) (c : Carrier.Run) (v : Signal.View) (r : Stepped)
+pub decided-is : (s : DecisionsState) (z : Complex32) (reliable : Bool) (oldest : Soft) (c : Carrier.CarrierStep) (v : Signal.View) (r : Stepped)
     → c ≡ Carrier.carriedOf (s .place .carrier) z reliable oldest (s .channels) (s .costs) (s .parents)
     → v ≡ Signal.pushedOf (Signal.viewOf (s .place .view) (s .view .real) (s .view .imaginary)) (c .carried .equalized)
     → r ≡ toldOf (s .place) (c .carried) (v .place)

@@ -7,11 +7,11 @@ use lib.Seq.{sets}
 use lib.Ieee.{Float}
 use Rattle.laws.specs.Turns.{turns}
 use Rattle.complex.specs.declared.Complex32.{Complex32}
-use Rattle.tracker.specs.Tracker.{pointAt}
-use Rattle.sequence.specs.declared.soft.Slot.{Slot}
-use Rattle.sequence.specs.declared.walk.Answer.{Answer}
-use Rattle.sequence.specs.declared.walk.Answer.the-variants.{Silent, Dibit}
-use Rattle.sequence.specs.Observed.{slotOf, recordBefore}
+use Rattle.complex.specs.Planes.{pointAt}
+use Rattle.answers.specs.declared.soft.Slot.{Slot}
+use Rattle.answers.specs.declared.walk.Answer.{Answer}
+use Rattle.answers.specs.declared.walk.Answer.the-variants.{Silent, Dibit}
+use Rattle.answers.specs.Observed.{slotOf, recordBefore}
 use Rattle.decisions.specs.Decisions.{DecisionsState, Step, decidedOf}
 
 -- a dibit, and the reliabilities of its higher and lower bit

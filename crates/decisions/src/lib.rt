@@ -10,20 +10,18 @@ ghost use Rattle.decisions.specs.Lends.{givenRow, leavesRow};
 mod link;
 pub mod step;
 
+use answers::PARENTS;
+use answers::soft::Records;
 use carrier::CarrierPlace;
+use channels::CHANNELS;
+use channels::STATES;
 use complex::Complex32;
 use link::link;
-use sequence::CHANNELS;
-use sequence::PARENTS;
-use sequence::STATES;
-use sequence::soft::Records;
+use signal::POINTS;
 use signal::ViewPlace;
 
 // A row holds at most so many symbols.
 pub const SYMBOLS: usize = 256;
-
-// The points that the view holds.
-pub const POINTS: usize = 1024;
 
 // The places of carrier and view, the profile, the dibits delivered since setup, and those of them
 // that were delivered under lock.

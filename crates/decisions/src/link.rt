@@ -4,15 +4,15 @@ ghost use Rattle.decisions.specs.Rows.{answerDibits, answerPair, laidIn,
 ghost use Rattle.decisions.specs.Ranges.{Roomy, Asks};
 ghost use Rattle.decisions.specs.Lends.{givenRoom, leavesRoom, givenRow, leavesRow};
 use super::Decided;
-use super::POINTS;
 use super::step::step;
+use answers::PARENTS;
+use answers::soft::Slot;
+use answers::soft::oldest;
+use answers::walk::Answer;
+use channels::CHANNELS;
+use channels::STATES;
 use complex::Complex32;
-use sequence::CHANNELS;
-use sequence::PARENTS;
-use sequence::STATES;
-use sequence::soft::Slot;
-use sequence::soft::oldest;
-use sequence::walk::Answer;
+use signal::POINTS;
 
 // A dibit and its two reliabilities, after those that are written.
 fn noted(answer: Answer, written: usize, dibits: &mut [u8], reliabilities: &mut [u8]) -> usize

@@ -5,6 +5,7 @@ use mathlib.Core.List.{List}
 use lib.ListN.{getD, set, replicate}
 use lib.Ieee.{Float, nan, binary32, ofBits, add, mul, sub, div, neg, lt}
 use Rattle.laws.specs.Turns.{turns}
+use Rattle.numbers.specs.Constants.{zero32, one32}
 use Rattle.numbers.specs.Numbers.{isFinite, clampOf}
 use Rattle.numbers.specs.Root.{sqrtOf}
 use Rattle.complex.specs.declared.Complex32.{Complex32}
@@ -23,14 +24,8 @@ rowOf re im = record { real = re; imaginary = im }
 abbrev pub tapAt : Row → ℕ → Complex32
 tapAt row k = record { real = getD (row .real) k nan; imaginary = getD (row .imaginary) k nan }
 
-abbrev pub zero32 : Float
-zero32 = ofBits binary32 0x00000000  -- 0
-
 abbrev pub half32 : Float
 half32 = ofBits binary32 0x3f000000  -- 0.5
-
-abbrev pub one32 : Float
-one32 = ofBits binary32 0x3f800000  -- 1
 
 abbrev pub two32 : Float
 two32 = ofBits binary32 0x40000000  -- 2

@@ -1,13 +1,14 @@
 -- The equalizer's step put together from what its parts answer, and what an unreliable one does. Assumes nothing.
 use mathlib.Core.Path.{_≡_, refl}
-use mathlib.Core.Bool.{Bool, true, false, cond}
+use mathlib.Core.Bool.{Bool, true, false}
 use lib.Ieee.{Float, binary32, ofBits, div, neg, lt}
 use Rattle.laws.specs.Branches.{cond-then, cond-no}
-use Rattle.numbers.specs.Numbers.{clampOf}
+use Rattle.numbers.specs.Constants.{zero32, one32}
+use Rattle.numbers.specs.Clamped.{clamped-low, clamped-high}
 use Rattle.numbers.specs.Root.{sqrtOf}
 use Rattle.complex.specs.Complex.{powerOf}
 use Rattle.equalizer.specs.declared.Sums.{Sums}
-use Rattle.equalizer.specs.Equalizer.{Row, Step, zero32, one32, tapSumsOf, stepOf, adaptedOf, mostNorm, mostRoot, normOf, scaledBy, limitedOf, learnsOf, updatedOf, slopeOf, timingErrorOf, equalizedOf}
+use Rattle.equalizer.specs.Equalizer.{Row, Step, tapSumsOf, stepOf, adaptedOf, mostNorm, mostRoot, normOf, scaledBy, limitedOf, learnsOf, updatedOf, slopeOf, timingErrorOf, equalizedOf}
 
 -- ---- the norm's two ways
 module _ (w : Row) (size : Float) (is-norm : size ≡ normOf w) where
@@ -50,25 +51,6 @@ unfolding equalizedOf timingErrorOf
 unreliable-silent w x dx = refl
 
 -- ---- the timing error is a NaN or lies in -1..1
-module _ (x lo hi : Float) (ordered : lt hi lo ≡ false) where
-  low-cases : (b c : Bool) → lt lo lo ≡ false → lt x lo ≡ b → lt (cond b lo (cond c hi x)) lo ≡ false
-  low-cases true c same h = same
-  low-cases false true same h = ordered
-  low-cases false false same h = h
-
-  high-cases : (b c : Bool) → lt hi hi ≡ false → lt hi x ≡ c → lt hi (cond b lo (cond c hi x)) ≡ false
-  high-cases true c same h = ordered
-  high-cases false true same h = same
-  high-cases false false same h = h
-
-  clamped-low : lt lo lo ≡ false → lt (clampOf x lo hi) lo ≡ false
-  unfolding clampOf
-  clamped-low same = low-cases (lt x lo) (lt hi x) same refl
-
-  clamped-high : lt hi hi ≡ false → lt hi (clampOf x lo hi) ≡ false
-  unfolding clampOf
-  clamped-high same = high-cases (lt x lo) (lt hi x) same refl
-
 pub timing-not-below : (s : Sums) (reliable : Bool) → lt (timingErrorOf s reliable) (neg one32) ≡ false
 unfolding timingErrorOf lt ofBits neg
 timing-not-below s true = clamped-low (slopeOf s) (neg one32) one32 refl refl

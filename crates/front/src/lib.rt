@@ -1,6 +1,5 @@
 // The front: samples are mixed, decimated and resampled into a row of values, 19,200 a second.
 ghost use mathlib.Core.Path.{_≡_};
-ghost use Prim.Native.Nat as Nat;
 ghost use Prim.Native.Nat.{_+_, _-_, _*_, _/_, _^_, _<_, _≤_};
 ghost use lib.ListN.{length};
 ghost use Rattle.oscillator.specs.Oscillator.{Number};
@@ -14,6 +13,7 @@ use decimator::Decimator;
 use decimator::Integrators;
 use decimator::Output;
 use oscillator::Oscillator;
+use patterns::least_usize;
 use resampler::pass::PLACES;
 use resampler::pass::Passed;
 use resampler::pass::Resampler;
@@ -131,13 +131,6 @@ fn single(p: FrontPlace, conjugated: bool, samples: &[f32], from: usize) -> Draw
     }
 }
 
-// The smaller of the two.
-fn least(a: usize, b: usize) -> usize
-    ensures { λ r. ⌜ r ≡ Nat.min a b ⌝ }
-{
-    if a < b { a } else { b }
-}
-
 // At d > 1, a run of samples into the integrators and, where it ends at a d-th sample, the combs' value.
 fn several(p: FrontPlace, conjugated: bool, samples: &[f32], from: usize) -> Drawn
     requires { ⌜ Admitted p ⌝ }
@@ -150,7 +143,7 @@ fn several(p: FrontPlace, conjugated: bool, samples: &[f32], from: usize) -> Dra
     let d = p.decimator;
     let i = d.integrators;
     let needed = d.decimation - d.counter;
-    let run = least(samples.len() / 2 - from, needed);
+    let run = least_usize(samples.len() / 2 - from, needed);
     let start = Gathering {
         oscillator: o,
         integrators: i,

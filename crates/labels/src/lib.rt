@@ -2,7 +2,7 @@
 ghost use mathlib.Core.Path.{_≡_};
 ghost use Prim.Native.Nat.{_<_, min};
 ghost use Rattle.labels.specs.Labels.{rearranges, relabelledOf, labelledOf, mostSymbols, countedOf};
-use sequence::walk::Answer;
+use answers::walk::Answer;
 
 // Whether a profile's labels are rearranged: those of profile 1 alone.
 pub fn is_rearranged(profile: i32) -> bool
@@ -26,7 +26,7 @@ fn relabelled(dibit: u8) -> u8
     }
 }
 
-fn lesser(a: u8, b: u8) -> u8
+fn least(a: u8, b: u8) -> u8
     ensures { λ r. ⌜ r ≡ min a b ⌝ }
 {
     if a < b { a } else { b }
@@ -40,7 +40,7 @@ pub fn labelled(rearranged: bool, answer: Answer) -> Answer
         return answer;
     };
     if rearranged {
-        return Answer::Dibit(relabelled(dibit), low, lesser(high, low));
+        return Answer::Dibit(relabelled(dibit), low, least(high, low));
     }
     answer
 }

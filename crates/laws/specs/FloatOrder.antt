@@ -235,6 +235,13 @@ total (fin true m e) (fin true n d) p q h = turned (m * up e * down d) (n * up d
         last false = refl
 
 -- ---- a comparison's outcome
+-- nothing lies below a NaN
+pub lt-nan : (x : Float) → lt x nan ≡ false
+unfolding lt
+lt-nan nan = refl
+lt-nan (inf s) = refl
+lt-nan (fin s m e) = refl
+
 pub lt→le : (x y : Float) → T (lt x y) → T (le x y)
 unfolding le
 lt→le x y t = or-l (lt x y) (eq x y) t

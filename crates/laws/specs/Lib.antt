@@ -2,6 +2,7 @@ pub mod Turns
 pub mod Branches
 pub mod Places
 pub mod Ring
+pub mod Modulo
 pub mod Lent
 pub mod FloatOrder
 pub mod FloatRounding

@@ -76,6 +76,18 @@ module _ {A : Type 0} where
   unfoldable pub laid : (ℕ → A) → ℕ → ℕ → List A → List A
   laid f from n l = turns (λ k m. set m (from + k) (f k)) n l
 
+  pub laid-start : (f : ℕ → A) (from : ℕ) (l : List A) → l ≡ laid f from 0 l
+  unfolding laid
+  laid-start f from l = turns-start _ _
+
+  pub laid-step : (f : ℕ → A) (from n : ℕ) (l m : List A) (v : A) → v ≡ f n → m ≡ laid f from n l → set m (from + n) v ≡ laid f from (n + 1) l
+  unfolding laid
+  laid-step f from n l m v e h = rw e (turns-step (λ k m. set m (from + k) (f k)) n l m h)
+
+  pub laid-end : (f : ℕ → A) (from i n : ℕ) (l m : List A) → m ≡ laid f from i l → i ≤ n → n ≤ i → m ≡ laid f from n l
+  unfolding laid
+  laid-end f from i n l m h a b = turns-end _ _ _ _ _ h a b
+
   pub length-laid : (f : ℕ → A) (from n : ℕ) (l : List A) → length (laid f from n l) ≡ length l
   unfolding laid
   length-laid f from n l = turns-length (λ k m. set m (from + k) (f k)) n l (λ k m. length-set m (from + k) (f k))

@@ -4,24 +4,25 @@ use mathlib.Core.Bool.{Bool}
 use mathlib.Core.List.{List}
 use lib.ListN.{replicate}
 use lib.Ieee.{Float}
+use Rattle.numbers.specs.Constants.{zero32}
 use Rattle.complex.specs.declared.Complex32.{Complex32}
-use Rattle.tracker.specs.Tracker.{Planes, followedOf}
-use Rattle.sequence.specs.declared.soft.Soft.{Soft}
+use Rattle.complex.specs.Planes.{Planes}
+use Rattle.lms_tracker.specs.Tracker.{followedOf}
+use Rattle.answers.specs.declared.soft.Soft.{Soft}
 use Rattle.sequence.specs.declared.step.DetectorPlace.{DetectorPlace}
 use Rattle.sequence.specs.declared.step.Detected.{Detected}
-use Rattle.sequence.specs.Observed.{zero32}
 use Rattle.sequence.specs.Sequence.{freshReal, Stepped, steppedOf}
 use Rattle.sequence.specs.Tracked.{Tracker, Detector, freshWith}
 
 -- what a step leaves
-pub record Run : Type 0 where
+pub record DetectorStep : Type 0 where
   pub detected : Detected
   pub channels : Planes
   pub costs : List Float
   pub parents : List ℕ
 
 -- the channels follow by each state's parent and prediction
-unfoldable pub detectedWith : Complex32 → Bool → Planes → Stepped → Run
+unfoldable pub detectedWith : Complex32 → Bool → Planes → Stepped → DetectorStep
 detectedWith input reliable channels s = record {
   detected = s .detected;
   channels = followedOf channels (s .row) (s .predictions) input reliable;
@@ -29,7 +30,7 @@ detectedWith input reliable channels s = record {
   parents = s .parents;
 }
 
-unfoldable pub detectedOf : DetectorPlace → Complex32 → Bool → Soft → Planes → List Float → List ℕ → Run
+unfoldable pub detectedOf : DetectorPlace → Complex32 → Bool → Soft → Planes → List Float → List ℕ → DetectorStep
 detectedOf d input reliable oldest channels costs parents = detectedWith input reliable channels (steppedOf d input reliable oldest channels costs parents)
 
 -- ---- over many inputs

@@ -8,13 +8,15 @@ use lib.ListN.{length, getD, replicate, length-replicate}
 use lib.Ieee.{nan}
 use Rattle.laws.specs.Places.{length-upto}
 use Rattle.laws.specs.FloatSums.{In}
+use Rattle.numbers.specs.Constants.{zero32}
 use Rattle.trellis.specs.Metric.{c0}
 use Rattle.trellis.specs.Costs.{c48}
 use Rattle.complex.specs.declared.Complex32.{Complex32}
-use Rattle.tracker.specs.Tracker.{Planes, laidOut, followedOf}
-use Rattle.sequence.specs.declared.walk.Answer.the-variants.{Silent, Dibit}
-use Rattle.sequence.specs.Observed.{zero32}
-use Rattle.sequence.specs.Walk.{decidedOf}
+use Rattle.complex.specs.Planes.{Planes}
+use Rattle.channels.specs.Channels.{laidOut}
+use Rattle.lms_tracker.specs.Tracker.{followedOf}
+use Rattle.answers.specs.declared.walk.Answer.the-variants.{Silent, Dibit}
+use Rattle.answers.specs.Walk.{decidedOf}
 use Rattle.sequence.specs.Sequence.{freshReal}
 use Rattle.sequence.specs.Skeleton.{freshSkeleton, oldestOf, putOf, madeBy, madeAt, historyOf, traced}
 use Rattle.sequence.specs.Ranges as Sequence
@@ -24,28 +26,28 @@ use Rattle.sequence.specs.Theorems.{Told}
 use Rattle.sequence.specs.Tracked.{Input, Detector, stepOf, answerOf, afterOf, ranOf, answersOf, stepsOf}
 use Rattle.sequence.specs.TrackedLaws as Tracked
 use Rattle.sequence.specs.TrackedLaws.{Unreliable}
-use Rattle.lms_detector.specs.Detector.{Run, detectedWith, detectedOf, lmsTracker, freshChannels, freshDetector}
+use Rattle.lms_detector.specs.Detector.{DetectorStep, detectedWith, detectedOf, lmsTracker, freshChannels, freshDetector}
 use Rattle.lms_detector.specs.Ranges.{Ranged, Sound}
 
 -- ---- the code's step is the step of this detector
-abbrev pub runOf : Detector Planes → Input → Run
-runOf d i = detectedOf (d .skeleton .place) (i .value) (i .reliable) (oldestOf (d .skeleton)) (d .memory) (d .skeleton .costs) (d .skeleton .parents)
+abbrev pub detectionOf : Detector Planes → Input → DetectorStep
+detectionOf d i = detectedOf (d .skeleton .place) (i .value) (i .reliable) (oldestOf (d .skeleton)) (d .memory) (d .skeleton .costs) (d .skeleton .parents)
 
 pub step-is : (d : Detector Planes) (i : Input)
     → afterOf lmsTracker d i
     ≡ record {
       skeleton = record {
-        place = runOf d i .detected .place;
-        costs = runOf d i .costs;
-        parents = runOf d i .parents;
-        records = putOf (d .skeleton .records) (d .skeleton .place .write) (runOf d i .detected .soft);
+        place = detectionOf d i .detected .place;
+        costs = detectionOf d i .costs;
+        parents = detectionOf d i .parents;
+        records = putOf (d .skeleton .records) (d .skeleton .place .write) (detectionOf d i .detected .soft);
       };
-      memory = runOf d i .channels;
+      memory = detectionOf d i .channels;
     }
 unfolding detectedOf detectedWith
 step-is d i = refl
 
-pub answer-is : (d : Detector Planes) (i : Input) → answerOf lmsTracker d i ≡ runOf d i .detected .answer
+pub answer-is : (d : Detector Planes) (i : Input) → answerOf lmsTracker d i ≡ detectionOf d i .detected .answer
 unfolding detectedOf detectedWith
 answer-is d i = refl
 

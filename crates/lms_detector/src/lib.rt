@@ -2,16 +2,16 @@
 // and then the channels follow by LMS steps what was received.
 ghost use mathlib.Core.Path.{_≡_};
 ghost use Rattle.lms_detector.specs.Detector.{detectedOf};
-ghost use Rattle.lms_detector.specs.Ranges.{Ranged, Kept};
+ghost use Rattle.lms_detector.specs.Ranges.{Ranged, RangedAfter};
 ghost use Rattle.lms_detector.specs.Lends.{leaves};
+use answers::PARENTS;
+use answers::soft::Soft;
+use channels::CHANNELS;
+use channels::STATES;
 use complex::Complex32;
-use sequence::CHANNELS;
-use sequence::PARENTS;
-use sequence::STATES;
-use sequence::soft::Soft;
+use lms_tracker::follow;
 use sequence::step::Detected;
 use sequence::step::DetectorPlace;
-use tracker::follow::follow;
 
 // One step. `oldest` is the soft record of 31 steps before; the caller puts the step's own in the
 // slot `write`.
@@ -27,7 +27,7 @@ pub fn step(
 ) -> Detected
     requires { ⌜ Ranged d (now «channel_real») (now «channel_imaginary») (now costs) (now parents) ⌝ }
     ensures { λ r. ⌜ leaves r «channel_real» «channel_imaginary» costs parents
-        (λ channels held table after. (after ≡ detectedOf d input reliable oldest channels held table) × Kept after) ⌝ }
+        (λ channels held table after. (after ≡ detectedOf d input reliable oldest channels held table) × RangedAfter after) ⌝ }
 {
     let mut row = [0; STATES];
     let mut prediction_real = [0.0; STATES];

@@ -1,4 +1,2 @@
 pub mod Narrowing
-pub mod ToWhole
-pub mod Integers
 pub mod Minus

@@ -13,7 +13,7 @@ use lib.Ieee.Nearest.{closest}
 use Rattle.laws.specs.FloatPack.{shifted-bits, shifted-min, closest-top}
 use Rattle.laws.specs.FloatParts.{field, digitsOf, powerOf, digits-lt, digits-some}
 use Rattle.patterns.specs.Shift.{Cmp, cmp}
-use Rattle.numbers.specs.Fractions.{rare}
+use Rattle.numbers.specs.Rare.{rare}
 use Rattle.laws.specs.Branches.{or-false}
 use Rattle.numbers.specs.Laws.{from-false}
 

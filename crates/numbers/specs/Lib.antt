@@ -1,9 +1,11 @@
 pub mod Numbers
+pub mod Constants
 pub mod Root
-pub mod Fractions
+pub mod Rare
 pub mod Bits
 pub mod BitsLaws
 pub mod Laws
+pub mod Clamped
 pub mod Roots
 pub mod RootOrder
 pub mod Faithful

@@ -6,7 +6,7 @@ ghost use lib.Dec.{leb};
 ghost use lib.Ieee.{binary32, binary64, round};
 ghost use Rattle.laws.specs.FloatParts.{digitsOf, powerOf};
 ghost use Rattle.numbers.specs.Numbers.{convert};
-ghost use Rattle.numbers.specs.Fractions.{rare};
+ghost use Rattle.numbers.specs.Rare.{rare};
 use patterns::digits;
 use patterns::least;
 use patterns::less;

@@ -12,12 +12,13 @@ use lib.Dec.{eqb}
 use lib.IntN.{ℤ, pos, negsuc}
 use lib.Ieee.{Float, isNan}
 use borrow.Author.Tests.{eq-eqb, ne-eqb, ltb-true, lt-ltb}
+use Rattle.numbers.specs.Constants.{zero64, one64}
 use Rattle.laws.specs.Places.{le-or}
 use Rattle.laws.specs.Branches.{cond-then, cond-no}
 use Rattle.routines.specs.Circle.{sineOf, cosineOf}
 use Rattle.complex.specs.declared.Complex32.{Complex32}
 use Rattle.oscillator.specs.declared.Oscillator.{Oscillator}
-use Rattle.oscillator.specs.Oscillator.{zero64, one64, angleOf, freshOf, admittedOf, Admitted, movedOf, renormalizedOf, turnedOf, conjugatedOf, Number}
+use Rattle.oscillator.specs.Oscillator.{angleOf, freshOf, admittedOf, Admitted, movedOf, renormalizedOf, turnedOf, conjugatedOf, Number}
 
 pub turned-last : (o r : Oscillator) → o .renormalize + 1 ≡ 4096 → r ≡ renormalizedOf (movedOf o) → r ≡ turnedOf o
 unfolding turnedOf

@@ -4,6 +4,7 @@ use mathlib.Core.Bool.{Bool, false, cond, not}
 use lib.Dec.{T, eqb, ltb}
 use lib.IntN.{ℤ, pos, negsuc}
 use lib.Ieee.{Float, binary64, ofBits, add, sub, mul, div, neg, isNan}
+use Rattle.numbers.specs.Constants.{zero64, one64}
 use Rattle.numbers.specs.Root.{sqrtOf}
 use Rattle.routines.specs.Circle.{sineOf, cosineOf}
 use Rattle.complex.specs.Complex.{narrowedOf}
@@ -11,12 +12,6 @@ use Rattle.complex.specs.declared.Complex32.{Complex32}
 use Rattle.complex.specs.declared.Complex64.{Complex64}
 use Rattle.oscillator.specs.declared.Oscillator.{Oscillator}
 use Rattle.oscillator.specs.declared.Step.{Step}
-
-abbrev pub zero64 : Float
-zero64 = ofBits binary64 0x0000_0000_0000_0000  -- 0
-
-abbrev pub one64 : Float
-one64 = ofBits binary64 0x3ff0_0000_0000_0000  -- 1
 
 abbrev pub minusTwo64 : Float
 minusTwo64 = ofBits binary64 0xc000_0000_0000_0000  -- -2

@@ -21,10 +21,17 @@ pub fn less(a: u64, b: u64) -> u64
     if a < b { 0 } else { a - b }
 }
 
+// The smaller of two numbers, and of two sizes.
 pub fn least(a: u64, b: u64) -> u64
     ensures { λ r. ⌜ r ≡ Nat.min a b ⌝ }
 {
     if a < b { a } else { b }
+}
+
+pub fn least_usize(a: usize, b: usize) -> usize
+    ensures { λ r. ⌜ r ≡ Nat.min a b ⌝ }
+{
+    if b < a { b } else { a }
 }
 
 pub fn wide(x: u32) -> u64

@@ -7,19 +7,19 @@ use native.Mathlib.Omega.{arith}
 use mathlib.Core.List.{List}
 use lib.ListN.{getD}
 use lib.Ieee.{Float, nan, binary32, ofBits}
-use Rattle.laws.specs.Places.{upto, upto-at}
+use Rattle.laws.specs.Places.{upto-at}
 use Rattle.laws.specs.Ring.{lt-or-ge}
 use Rattle.numbers.specs.Nearest.{Value}
 use Rattle.numbers.specs.NearestLaws.{same-place}
 use Rattle.peak.specs.Peak.{topOf, peakOf}
 use Rattle.peak.specs.Columns.{fourOf, columnOf, columnsOf, quarterOf, highestOf}
-use Rattle.peak.specs.Sized.{Sized, some, place, top-sized, top-place, Largest, largest-one, nought, in-order}
+use Rattle.peak.specs.Sizes.{Unsigned, some, place, top-unsigned, top-place, Largest, largest-one, nought, in-order}
 
 -- ---- the largest of four
 record Four (n : ℕ → ℕ) (s k m : ℕ) : Type 0 where
   is : m ≡ max (max (max (max 0 (n k)) (n (s + k))) (n (2 * s + k))) (n (3 * s + k))
 
-module _ (es : List Float) (s k : ℕ) (a : Sized (getD es k nan)) (b : Sized (getD es (s + k) nan)) (c : Sized (getD es (2 * s + k) nan)) (d : Sized (getD es (3 * s + k) nan)) (z : Float) (Z : Value binary32 z) (Z0 : place z ≡ 0) where
+module _ (es : List Float) (s k : ℕ) (a : Unsigned (getD es k nan)) (b : Unsigned (getD es (s + k) nan)) (c : Unsigned (getD es (2 * s + k) nan)) (d : Unsigned (getD es (3 * s + k) nan)) (z : Float) (Z : Value binary32 z) (Z0 : place z ≡ 0) where
   abbrev t1 : Float
   t1 = topOf z (getD es k nan)
 
@@ -30,16 +30,16 @@ module _ (es : List Float) (s k : ℕ) (a : Sized (getD es k nan)) (b : Sized (g
   t3 = topOf t2 (getD es (2 * s + k) nan)
 
   v1 : Value binary32 t1
-  v1 = top-sized z (getD es k nan) Z a
+  v1 = top-unsigned z (getD es k nan) Z a
 
   v2 : Value binary32 t2
-  v2 = top-sized t1 (getD es (s + k) nan) v1 b
+  v2 = top-unsigned t1 (getD es (s + k) nan) v1 b
 
   v3 : Value binary32 t3
-  v3 = top-sized t2 (getD es (2 * s + k) nan) v2 c
+  v3 = top-unsigned t2 (getD es (2 * s + k) nan) v2 c
 
   four-value : Value binary32 (fourOf z es s k)
-  four-value = top-sized t3 (getD es (3 * s + k) nan) v3 d
+  four-value = top-unsigned t3 (getD es (3 * s + k) nan) v3 d
 
   four-is : Four (λ i. place (getD es i nan)) s k (place (fourOf z es s k))
   four-is = record {
@@ -83,7 +83,7 @@ columns-largest n c s m F L = record {
     within j l i (inr (inr (inr e))) = subst (λ (z : ℕ). n z ≤ c j) (sym e) (four-upper n s j (c j) (F j l) .3)
 
 -- ---- the theorem
-module _ (es : List Float) (S : (k : ℕ) → k < 64 → Sized (getD es k nan)) where
+module _ (es : List Float) (S : (k : ℕ) → k < 64 → Unsigned (getD es k nan)) where
   zero-place : place (ofBits binary32 0) ≡ 0
   unfolding ofBits
   zero-place = refl
@@ -100,35 +100,35 @@ module _ (es : List Float) (S : (k : ℕ) → k < 64 → Sized (getD es k nan)) 
   unfolding columnsOf
   column-at k l = upto-at (columnOf es) 16 k nan l
 
-  column-sized : (k : ℕ) → k < 16 → Sized (getD (columnsOf es) k nan)
-  column-sized k l = subst Sized (sym (column-at k l)) (some (column-value k l))
+  column-unsigned : (k : ℕ) → k < 16 → Unsigned (getD (columnsOf es) k nan)
+  column-unsigned k l = subst Unsigned (sym (column-at k l)) (some (column-value k l))
 
   abbrev ps : List Float
   ps = columnsOf es
 
   quarter-value : (k : ℕ) → k < 4 → Value binary32 (quarterOf ps k)
   unfolding quarterOf
-  quarter-value k l = four-value ps 4 k (column-sized k (omega arith)) (column-sized (4 + k) (omega arith)) (column-sized (8 + k) (omega arith)) (column-sized (12 + k) (omega arith)) (ofBits binary32 0) (nought es S) zero-place
+  quarter-value k l = four-value ps 4 k (column-unsigned k (omega arith)) (column-unsigned (4 + k) (omega arith)) (column-unsigned (8 + k) (omega arith)) (column-unsigned (12 + k) (omega arith)) (ofBits binary32 0) (nought es S) zero-place
 
   quarter-four : (k : ℕ) → k < 4 → Four (λ i. place (getD ps i nan)) 4 k (place (quarterOf ps k))
   unfolding quarterOf
-  quarter-four k l = four-is ps 4 k (column-sized k (omega arith)) (column-sized (4 + k) (omega arith)) (column-sized (8 + k) (omega arith)) (column-sized (12 + k) (omega arith)) (ofBits binary32 0) (nought es S) zero-place
+  quarter-four k l = four-is ps 4 k (column-unsigned k (omega arith)) (column-unsigned (4 + k) (omega arith)) (column-unsigned (8 + k) (omega arith)) (column-unsigned (12 + k) (omega arith)) (ofBits binary32 0) (nought es S) zero-place
 
   -- the last four
   highest-value : Value binary32 (highestOf es)
   unfolding highestOf
   highest-value =
       let q = quarter-value in
-      top-sized (topOf (quarterOf ps 0) (quarterOf ps 1)) (topOf (quarterOf ps 2) (quarterOf ps 3))
-      (top-sized (quarterOf ps 0) (quarterOf ps 1) (q 0 (omega arith)) (some (q 1 (omega arith))))
-      (some (top-sized (quarterOf ps 2) (quarterOf ps 3) (q 2 (omega arith)) (some (q 3 (omega arith)))))
+      top-unsigned (topOf (quarterOf ps 0) (quarterOf ps 1)) (topOf (quarterOf ps 2) (quarterOf ps 3))
+      (top-unsigned (quarterOf ps 0) (quarterOf ps 1) (q 0 (omega arith)) (some (q 1 (omega arith))))
+      (some (top-unsigned (quarterOf ps 2) (quarterOf ps 3) (q 2 (omega arith)) (some (q 3 (omega arith)))))
 
   highest-place : place (highestOf es) ≡ max (max (place (quarterOf ps 0)) (place (quarterOf ps 1))) (max (place (quarterOf ps 2)) (place (quarterOf ps 3)))
   unfolding highestOf
   highest-place =
       let q = quarter-value in
-      let a = top-sized (quarterOf ps 0) (quarterOf ps 1) (q 0 (omega arith)) (some (q 1 (omega arith))) in
-      let b = top-sized (quarterOf ps 2) (quarterOf ps 3) (q 2 (omega arith)) (some (q 3 (omega arith))) in
+      let a = top-unsigned (quarterOf ps 0) (quarterOf ps 1) (q 0 (omega arith)) (some (q 1 (omega arith))) in
+      let b = top-unsigned (quarterOf ps 2) (quarterOf ps 3) (q 2 (omega arith)) (some (q 3 (omega arith))) in
       top-place (topOf (quarterOf ps 0) (quarterOf ps 1)) (topOf (quarterOf ps 2) (quarterOf ps 3)) a (some b)
       ∙ ap (λ (m : ℕ). max m (place (topOf (quarterOf ps 2) (quarterOf ps 3)))) (top-place (quarterOf ps 0) (quarterOf ps 1) (q 0 (omega arith)) (some (q 1 (omega arith))))
       ∙ ap (λ (m : ℕ). max (max (place (quarterOf ps 0)) (place (quarterOf ps 1))) m) (top-place (quarterOf ps 2) (quarterOf ps 3) (q 2 (omega arith)) (some (q 3 (omega arith))))

@@ -21,8 +21,8 @@ use Rattle.complex.specs.Complex.{scaledOf}
 use Rattle.peak.specs.declared.KeeperPlace.{KeeperPlace}
 use Rattle.peak.specs.declared.Kept.{Kept}
 use Rattle.peak.specs.declared.Level.the-variants.{Filling, At}
-use Rattle.peak.specs.Peak.{freshPlace, admittedOf, Admitted, Ring, Run, smallerShare, envelopeOf, envelopesOf, peakOf, followedOf, floorOf, gainOf, reliableOf, levelledOf, oldestOf, putIn, keptOf}
-use Rattle.peak.specs.Sized.{Sized, none, some}
+use Rattle.peak.specs.Peak.{freshPlace, admittedOf, Admitted, Ring, KeeperStep, smallerShare, envelopeOf, envelopesOf, peakOf, followedOf, floorOf, gainOf, reliableOf, levelledOf, oldestOf, putIn, keptOf}
+use Rattle.peak.specs.Sizes.{Unsigned, none, some}
 use Rattle.peak.specs.Columns.{highestOf}
 use Rattle.peak.specs.ColumnLaws.{highest-peak}
 
@@ -84,17 +84,17 @@ share-free : Free smallerShare
 unfolding ofBits
 share-free = plain tt
 
-sized : (x : Float) → T (fits binary32 x) → Free x → Sized x
-sized nan F p = none
-sized (inf s) F (plain p) = some (record { held = F; plain = p })
-sized (fin s m e) F (plain p) = some (record { held = F; plain = p })
+unsigned : (x : Float) → T (fits binary32 x) → Free x → Unsigned x
+unsigned nan F p = none
+unsigned (inf s) F (plain p) = some (record { held = F; plain = p })
+unsigned (fin s m e) F (plain p) = some (record { held = F; plain = p })
 
-envelope-sized : (real imaginary : Float) → Sized (envelopeOf real imaginary)
+envelope-unsigned : (real imaginary : Float) → Unsigned (envelopeOf real imaginary)
 unfolding envelopeOf
-envelope-sized real imaginary =
+envelope-unsigned real imaginary =
     let a = absOf real in
     let b = absOf imaginary in
-    sized (add binary32 (maxOf a b) (mul binary32 smallerShare (minOf a b))) (add-fits binary32 (maxOf a b) (mul binary32 smallerShare (minOf a b)))
+    unsigned (add binary32 (maxOf a b) (mul binary32 smallerShare (minOf a b))) (add-fits binary32 (maxOf a b) (mul binary32 smallerShare (minOf a b)))
     (add-free (maxOf a b) (mul binary32 smallerShare (minOf a b)) (max-free a b (abs-free real) (abs-free imaginary)) (mul-free smallerShare (minOf a b) share-free (min-free a b (abs-free real) (abs-free imaginary))))
 
 -- ---- the plane of envelopes
@@ -107,7 +107,7 @@ unfolding envelopesOf
 envelopes-length real imaginary = length-upto (λ k. envelopeOf (getD real k nan) (getD imaginary k nan)) 64
 
 pub highest-is : (real imaginary : List Float) → highestOf (envelopesOf real imaginary) ≡ peakOf (envelopesOf real imaginary)
-highest-is real imaginary = highest-peak (envelopesOf real imaginary) (λ k h. subst Sized (sym (envelopes-at real imaginary k h)) (envelope-sized (getD real k nan) (getD imaginary k nan)))
+highest-is real imaginary = highest-peak (envelopesOf real imaginary) (λ k h. subst Unsigned (sym (envelopes-at real imaginary k h)) (envelope-unsigned (getD real k nan) (getD imaginary k nan)))
 
 -- a new value renews its own envelope and no other
 abbrev renewed : List Float → List Float → ℕ → Float → Float → ℕ → Float
@@ -151,13 +151,13 @@ module _ (place : KeeperPlace) (z : Complex32) (real imaginary : List Float) whe
   next = putIn ring (place .head) z
 
   pub keep-filling : (n : ℕ) → place .fill < 63 → n ≡ place .fill + 1
-      → _≡_ {A = Run} (record { kept = record { place = record { head = (place .head + 1) % 64; fill = n; reference = place .reference }; level = Filling }; ring = next }) (keptOf place z ring)
+      → _≡_ {A = KeeperStep} (record { kept = record { place = record { head = (place .head + 1) % 64; fill = n; reference = place .reference }; level = Filling }; ring = next }) (keptOf place z ring)
   unfolding keptOf
   keep-filling n h e = rw (lt-ltb (place .fill) 63 h, e)
 
   pub keep-level : (kept : Kept) (peak : Float) → 63 ≤ place .fill → peak ≡ peakOf (envelopesOf (next .real) (next .imaginary))
       → kept ≡ levelledOf ((place .head + 1) % 64) (place .reference) (oldestOf next ((place .head + 1) % 64)) peak
-      → _≡_ {A = Run} (record { kept = kept; ring = next }) (keptOf place z ring)
+      → _≡_ {A = KeeperStep} (record { kept = kept; ring = next }) (keptOf place z ring)
   unfolding keptOf
   keep-level kept peak h p e = rw (le-ltb (place .fill) 63 h, ← p) (ap (λ (k : Kept). record { kept = k; ring = next }) e)
 

@@ -1,6 +1,6 @@
 pub mod Peak
 pub mod Columns
 pub mod Lends
-pub mod Sized
+pub mod Sizes
 pub mod ColumnLaws
 pub mod Laws

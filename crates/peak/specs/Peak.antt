@@ -7,6 +7,7 @@ use lib.ListN.{getD, set}
 use lib.Ieee.{Float, nan, binary32, ofBits, add, mul, div, lt, le}
 use Rattle.laws.specs.Turns.{turns}
 use Rattle.laws.specs.Places.{upto}
+use Rattle.numbers.specs.Constants.{zero32, one32}
 use Rattle.numbers.specs.Numbers.{absOf, minOf, maxOf}
 use Rattle.complex.specs.declared.Complex32.{Complex32}
 use Rattle.complex.specs.Complex.{scaledOf}
@@ -15,7 +16,7 @@ use Rattle.peak.specs.declared.Kept.{Kept}
 use Rattle.peak.specs.declared.Level.the-variants.{Filling, At}
 
 abbrev pub freshPlace : KeeperPlace
-freshPlace = record { head = 0; fill = 0; reference = ofBits binary32 0x00000000 }  -- 0
+freshPlace = record { head = 0; fill = 0; reference = zero32 }
 
 -- ---- the places that may be run: head below 64, fill at most 64, any reference
 abbrev pub admittedOf : KeeperPlace → Bool
@@ -78,9 +79,6 @@ unfoldable pub reliableOf : Float → Float → Bool
 unfolding lt le ofBits
 reliableOf peak floor = lt faintest peak && le floor peak
 
-abbrev pub one32 : Float
-one32 = ofBits binary32 0x3f800000  -- 1
-
 unfoldable pub gainOf : Float → Float → Float
 unfolding maxOf div ofBits
 gainOf peak floor = div binary32 one32 (maxOf (maxOf peak floor) faintest)
@@ -106,11 +104,11 @@ levelledOf head reference oldest peak =
     record { place = record { head = head; fill = 64; reference = r }; level = At (scaledOf oldest (gainOf peak floor)) (reliableOf peak floor) }
 
 -- what a value leaves: place and level, and the ring
-pub record Run : Type 0 where
+pub record KeeperStep : Type 0 where
   pub kept : Kept
   pub ring : Ring
 
-unfoldable pub keptOf : KeeperPlace → Complex32 → Ring → Run
+unfoldable pub keptOf : KeeperPlace → Complex32 → Ring → KeeperStep
 unfolding peakOf envelopesOf levelledOf
 keptOf place z ring =
     let next = putIn ring (place .head) z in

@@ -5,7 +5,7 @@ ghost use mathlib.Core.Path.{_≡_};
 ghost use Prim.Native.Nat.{_<_};
 ghost use lib.ListN.{length};
 ghost use Rattle.peak.specs.Lends.{leaves};
-ghost use Rattle.peak.specs.Peak.{Run, freshPlace, admittedOf, envelopeOf, envelopesOf, topOf, followedOf, floorOf, gainOf, reliableOf, levelledOf, keptOf};
+ghost use Rattle.peak.specs.Peak.{KeeperStep, freshPlace, admittedOf, envelopeOf, envelopesOf, topOf, followedOf, floorOf, gainOf, reliableOf, levelledOf, keptOf};
 ghost use Rattle.peak.specs.Columns.{columnOf, columnsOf, quarterOf, highestOf};
 use complex::Complex32;
 use complex::scaled;
@@ -180,7 +180,7 @@ pub fn keep(
     requires { ⌜ length (now real) ≡ 64 ⌝ }
     requires { ⌜ length (now imaginary) ≡ 64 ⌝ }
     requires { ⌜ now sizes ≡ envelopesOf (now real) (now imaginary) ⌝ }
-    ensures same { λ r. ⌜ leaves real imaginary (λ ring after. _≡_ {A = Run} (record { kept = r; ring = after }) (keptOf place value ring)) ⌝ }
+    ensures same { λ r. ⌜ leaves real imaginary (λ ring after. _≡_ {A = KeeperStep} (record { kept = r; ring = after }) (keptOf place value ring)) ⌝ }
     ensures envelopes { λ r. ⌜ now (sizes .exit) ≡ envelopesOf (now (real .exit)) (now (imaginary .exit)) ⌝ }
 {
     let at = place.head;

@@ -5,7 +5,7 @@ use lib.ListN.{replicate}
 use lib.Ieee.{Float}
 use Rattle.chain.specs.declared.ChainPlace.{ChainPlace}
 use Rattle.receiver_state.specs.declared.state.Receiver.{Receiver}
-use Rattle.receiver_state.specs.Refusal.{numberOf}
+use Rattle.checks.specs.Refusal.{numberOf}
 use Rattle.receiver.specs.Block.{Outcome, blockOf}
 use Rattle.recording.specs.declared.text.Totals.{Totals}
 use Rattle.recording.specs.Decode.{floatsOf}

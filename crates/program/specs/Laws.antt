@@ -16,9 +16,11 @@ use Rattle.receiver_state.specs.declared.state.Receiver.{Receiver}
 use Rattle.receiver_state.specs.declared.state.Snapshot.{Snapshot}
 use Rattle.receiver.specs.declared.block.Block.{Block}
 use Rattle.receiver_state.specs.State.{snapshotOf, flagOf}
-use Rattle.receiver_state.specs.Refusal.{numberOf}
+use Rattle.checks.specs.Refusal.{numberOf}
 use Rattle.samples.specs.Samples.{realOf, imaginaryOf, isAbove, overloadTurn, overloadOf}
-use Rattle.receiver.specs.Block.{Outcome, outcomeNow, judgedOf, statedOf, acceptedOf, refusedOf, blockOf}
+use Rattle.checks.specs.Checks.{statedOf}
+use Rattle.receiver.specs.Admitted.{judgedOf}
+use Rattle.receiver.specs.Block.{Outcome, outcomeNow, acceptedOf, refusedOf, blockOf}
 use Rattle.recording.specs.Decode.{floatAt, floatsOf}
 use Rattle.recording.specs.Text.{Written, writtenOf, put, linesOf, closingOf}
 use Rattle.program.specs.Answer.{Told, toldNow, toldBy, toldOf, totalsOf}

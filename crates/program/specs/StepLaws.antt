@@ -12,7 +12,7 @@ use borrow.Author.Tests.{lt-ltb, le-ltb, eqb-true}
 use Rattle.laws.specs.Branches.{cond-yes, cond-then, cond-no}
 use Rattle.receiver_state.specs.declared.state.Receiver.{Receiver}
 use Rattle.receiver.specs.declared.setup.Setup.{Setup}
-use Rattle.receiver_state.specs.Refusal.{numberOf}
+use Rattle.checks.specs.Refusal.{numberOf}
 use Rattle.receiver.specs.Setup.{SetUp, setupNow, setupOf}
 use Rattle.recording.specs.Decode.{wordAt}
 use Rattle.recording.specs.Text.{Written, writtenOf, put, closingOf, refusedOf}

@@ -1,6 +1,6 @@
 -- The whole program: all that it writes for all that it is given, piece by piece as its stages wait for bytes; and the specification's example, word for word. Assumes nothing.
 use mathlib.Core.Path.{_≡_, refl, ap, _∙_}
-use mathlib.Core.Bool.{true, false, cond}
+use mathlib.Core.Bool.{false, cond}
 use mathlib.Core.List.{List, [], _∷_, _++_, append-nil}
 use Prim.Native.Nat.{ℕ, zero, suc, _+_, _*_, _≤_}
 use native.Mathlib.Omega.{arith}
@@ -10,18 +10,21 @@ use lib.ListN.{length, take, drop, replicate, length-replicate}
 use lib.Seq.{take-at}
 use lib.Ieee.{Float, binary32, binary64, ofBits, ofInt, toUnsigned, add, mul, div, lt, le}
 use borrow.Author.Tests.{le-ltb}
-use Rattle.numbers.specs.Numbers.{wholeOf, absOf, isFinite}
+use Rattle.numbers.specs.Constants.{zero64}
+use Rattle.numbers.specs.Numbers.{absOf, isFinite}
+use Rattle.whole.specs.Whole.{wholeOf}
 use Rattle.resampler.specs.Dimensions.{decimationOf, decimatedOf, armLengthOf, sizedOf}
 use Rattle.resampler.specs.Design as design
 use Rattle.receiver_state.specs.declared.state.Receiver.{Receiver}
-use Rattle.receiver_state.specs.State.{zero64, zeroReceiver, freshFront, freshReceiver}
-use Rattle.receiver.specs.Setup.{SetUp, rateRefused, offsetRefused, setupOf}
+use Rattle.receiver_state.specs.State.{zeroReceiver, freshFront, freshReceiver}
+use Rattle.checks.specs.Checks.{rateRefused, offsetRefused}
+use Rattle.receiver.specs.Setup.{setupOf}
 use Rattle.recording.specs.declared.text.Totals.{Totals}
 use Rattle.recording.specs.Decode.{wordAt}
 use Rattle.recording.specs.Text.{Written, writtenOf, put, closingOf}
 use Rattle.recording.specs.TextLaws.{nothing, nothing-closed, put-is}
 use Rattle.program.specs.declared.step.Stage.{Stage}
-use Rattle.program.specs.declared.step.Stage.the-variants.{Head, Settings, Count, Samples, End, Done}
+use Rattle.program.specs.declared.step.Stage.the-variants.{Head, Settings, Count, End}
 use Rattle.program.specs.Answer.{totalsOf}
 use Rattle.program.specs.Program.{wantedOf, Ran, onTo, headGood, headOf, setUpOf, settingsOf, countOf, endOf, stepOf, tableOf, restOf}
 

@@ -12,6 +12,7 @@ use lib.Ieee.Fits.{ofInt-fits}
 use borrow.Author.Tests.{le-ltb, ne-eqb, eqb-false}
 use Rattle.laws.specs.Places.{length-upto}
 use Rattle.laws.specs.Branches.{not-false}
+use Rattle.numbers.specs.Constants.{zero32}
 use Rattle.resampler.specs.declared.dimensions.Dimensions.{Dimensions}
 use Rattle.resampler.specs.Dimensions as resampler
 use Rattle.sequence.specs.Sequence as sequence
@@ -21,16 +22,18 @@ use Rattle.oscillator.specs.Oscillator.{conjugatedOf}
 use Rattle.chain.specs.Rows.{chainOf}
 use Rattle.chain.specs.RowLaws.{Left, chain-left}
 use Rattle.receiver_state.specs.declared.state.Receiver.{Receiver}
-use Rattle.receiver_state.specs.Refusal.{firstOf}
-use Rattle.receiver_state.specs.State.{zero32, freshFront, freshReceiver}
-use Rattle.receiver.specs.Setup.{setupChecks, setupBy, setupOf}
+use Rattle.checks.specs.Refusal.{firstOf}
+use Rattle.receiver_state.specs.State.{freshFront, freshReceiver}
+use Rattle.checks.specs.Checks.{setupChecks, countRefused, roomRefused, statedOf}
+use Rattle.receiver.specs.Setup.{setupBy, setupOf}
 use Rattle.samples.specs.Samples.{countOf, finiteOf}
-use Rattle.receiver_state.specs.Admitted.{admittedOf}
-use Rattle.receiver_state.specs.Fits.{fits-from}
-use Rattle.samples.specs.Run.{frontAt, wholeOf, Going, ReadyRun}
-use Rattle.receiver.specs.Block.{countRefused, roomRefused, judgedOf, statedOf, startOf, blockOf}
-use Rattle.receiver.specs.BlockWays.{counted}
-use Rattle.receiver.specs.BlockLaws.{ReadyBlock, ready-block, numbers-of, run-asks, run-admitted}
+use Rattle.receiver.specs.Admitted.{admittedOf}
+use Rattle.checks.specs.Fits.{fits-from}
+use Rattle.run.specs.Run.{frontAt, wholeRunOf, Going, ReadyRun}
+use Rattle.receiver.specs.Block.{startOf, blockOf}
+use Rattle.checks.specs.Ways.{counted}
+use Rattle.receiver.specs.Accepted.{ReadyBlock, ready-block, numbers-of}
+use Rattle.receiver.specs.BlockLaws.{run-asks, run-admitted}
 use Rattle.promises.specs.Deliveries.{afterOf, number-is, accepted-is}
 
 -- rooms that suffice for n samples: 2n+4 dibits, 4n+8 reliability bytes
@@ -104,7 +107,7 @@ pub record Typed (r : Receiver) : Type 0 where
   pub parents : length (r .parents) ≡ 2048
 
 -- what an accepted block keeps
-pub record Kept (r s : Receiver) : Type 0 where
+pub record BlockKeeps (r s : Receiver) : Type 0 where
   pub admitted : admittedOf s ≡ true
   pub typed : Typed s
   pub arm : s .front .resampler .arm ≡ r .front .resampler .arm
@@ -132,23 +135,23 @@ module _ (r : Receiver) (table xs : List Float) (ds rs : List ℕ) (t : Typed r)
   ran : steps.Ran (countOf xs) before (front.frontOf conjugated table xs (countOf xs) before)
   ran = steps.ran conjugated table xs (countOf xs) before (record { admitted = asks .ready; stored = t .next }) (asks .index-in)
 
-  left : Left (2 * countOf xs) (startOf r ds rs .lent .state) (startOf r ds rs .lent .room) (wholeOf conjugated table xs (startOf r ds rs) .lent)
-  unfolding wholeOf
+  left : Left (2 * countOf xs) (startOf r ds rs .lent .state) (startOf r ds rs .lent .room) (wholeRunOf conjugated table xs (startOf r ds rs) .lent)
+  unfolding wholeRunOf
   left =
       let l = chain-left (frontAt conjugated table xs (startOf r ds rs) (countOf xs) .values) (startOf r ds rs .lent .state) (startOf r ds rs .lent .records) (startOf r ds rs .lent .room) (asks .asks .state) in
       let m = l .most in
       let v = ran .values in
       record { ranged = l .ranged; least = l .least; most = omega arith; symbols = l .symbols; dibits = l .dibits; reliabilities = l .reliabilities }
 
-  going : Going conjugated table xs (startOf r ds rs) (wholeOf conjugated table xs (startOf r ds rs))
-  unfolding wholeOf
+  going : Going conjugated table xs (startOf r ds rs) (wholeRunOf conjugated table xs (startOf r ds rs))
+  unfolding wholeRunOf
   going = record { high = omega arith; next = ran .kept .next; rung = refl; lent = refl; left = left }
 
-  pub passes-kept : Kept r (afterOf r table xs)
-  unfolding afterOf wholeOf chainOf
+  pub passes-kept : BlockKeeps r (afterOf r table xs)
+  unfolding afterOf wholeRunOf chainOf
   passes-kept =
       let s = left .ranged in record {
-        admitted = run-admitted conjugated r table xs ds rs (wholeOf conjugated table xs (startOf r ds rs)) ready going refl;
+        admitted = run-admitted conjugated r table xs ds rs (wholeRunOf conjugated table xs (startOf r ds rs)) ready going refl;
         typed = record {
           next = ran .kept .sound .stored;
           keeper-real = s .recovery .keeper .real-size;
@@ -162,7 +165,7 @@ module _ (r : Receiver) (table xs : List Float) (ds rs : List ℕ) (t : Typed r)
       }
 
 -- EVERY STATE FROM AN ACCEPTED BLOCK is admitted, and typed where the state given is
-pub block-kept : (r : Receiver) (table xs : List Float) (ds rs : List ℕ) → Typed r → blockOf r table xs ds rs .number ≡ 0 → Kept r (blockOf r table xs ds rs .receiver)
+pub block-kept : (r : Receiver) (table xs : List Float) (ds rs : List ℕ) → Typed r → blockOf r table xs ds rs .number ≡ 0 → BlockKeeps r (blockOf r table xs ds rs .receiver)
 block-kept r table xs ds rs t h = rw (accepted-is r table xs ds rs h) (passes-kept r table xs ds rs t (accepted-passes r table xs ds rs h))
 
 fresh-typed : (rate offset : Float) (profile : ℤ) (d : Dimensions) → Typed (freshReceiver (freshFront rate offset d) profile)

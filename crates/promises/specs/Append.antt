@@ -11,7 +11,7 @@ use Rattle.laws.specs.Turns.{turns}
 use Rattle.numbers.specs.Numbers.{isFinite}
 use Rattle.complex.specs.declared.Complex32.{Complex32}
 use Rattle.taps.specs.Taps.{bothTables}
-use Rattle.sequence.specs.declared.soft.Slot.{Slot}
+use Rattle.answers.specs.declared.soft.Slot.{Slot}
 use Rattle.front.specs.Front as front
 use Rattle.oscillator.specs.Oscillator.{conjugatedOf}
 use Rattle.chain.specs.Chain.{ChainState}
@@ -19,7 +19,7 @@ use Rattle.chain.specs.Rows.{dibitsOf, pairOf, recordsAfter, Told, start, slotA
 use Rattle.chain.specs.RowLaws.{ran-profile, ran-append}
 use Rattle.receiver_state.specs.declared.state.Receiver.{Receiver}
 use Rattle.samples.specs.Samples.{countOf, realOf, imaginaryOf, finiteOf, isAbove, overloadOf}
-use Rattle.samples.specs.Run.{wholeOf}
+use Rattle.run.specs.Run.{wholeRunOf}
 use Rattle.receiver.specs.Block.{startOf, receiverOf}
 use Rattle.promises.specs.Deliveries.{Delivery, deliveryOf, deliveries, deliveriesOf, afterOf}
 
@@ -160,21 +160,21 @@ module _ (r : Receiver) (table xs ys : List Float) where
   toldSecond = ran (frontSecond .values) (start (toldFirst .state) (toldFirst .records))
 
   same-profile : conjugatedOf (afterOf r table xs .chain .profile) ≡ conjugated
-  unfolding afterOf wholeOf chainOf
+  unfolding afterOf wholeRunOf chainOf
   same-profile = ap conjugatedOf (ran-profile (bothTables .taps) (bothTables .derivatives) (frontFirst .values) started)
 
   after-second : afterOf (afterOf r table xs) table ys ≡ made (r .total + countOf xs + countOf ys) (frontSecond .rung) (toldSecond .state) (toldSecond .records)
-  unfolding afterOf wholeOf chainOf
-  after-second = ap (λ (b : Bool). receiverOf (r .total + countOf xs + countOf ys) (wholeOf b table ys (startOf (afterOf r table xs) [] []))) same-profile
+  unfolding afterOf wholeRunOf chainOf
+  after-second = ap (λ (b : Bool). receiverOf (r .total + countOf xs + countOf ys) (wholeRunOf b table ys (startOf (afterOf r table xs) [] []))) same-profile
 
   deliveries-second : deliveriesOf (afterOf r table xs) table ys ≡ deliveries (bothTables .taps) (bothTables .derivatives) (frontSecond .values) (toldFirst .state) (toldFirst .records)
-  unfolding deliveriesOf afterOf wholeOf chainOf
+  unfolding deliveriesOf afterOf wholeRunOf chainOf
   deliveries-second = ap (λ (b : Bool). deliveries (bothTables .taps) (bothTables .derivatives) (frontFrom b table ys (frontFirst .rung) [] .values) (toldFirst .state) (toldFirst .records)) same-profile
 
   module _ (even : length xs ≡ 2 * countOf xs) where
     -- the state after a block of both is that after one and then the other
     pub after-append : afterOf r table (xs ++ ys) ≡ afterOf (afterOf r table xs) table ys
-    unfolding afterOf wholeOf chainOf
+    unfolding afterOf wholeRunOf chainOf
     after-append =
         let n : r .total + countOf (xs ++ ys) ≡ r .total + countOf xs + countOf ys = (let e = count-append xs ys even in omega arith) in
         let f = front-append conjugated table xs ys even (startOf r [] [] .rung) in

@@ -7,7 +7,7 @@ use lib.Dec.{eqb}
 use lib.Ieee.{Float}
 use Rattle.complex.specs.declared.Complex32.{Complex32}
 use Rattle.taps.specs.Taps.{bothTables}
-use Rattle.sequence.specs.declared.soft.Slot.{Slot}
+use Rattle.answers.specs.declared.soft.Slot.{Slot}
 use Rattle.chain.specs.Chain.{ChainState, Step}
 use Rattle.chain.specs.Rows.{recordsAfter, slotAt, nextOf}
 use Rattle.receiver_state.specs.declared.state.Receiver.{Receiver}

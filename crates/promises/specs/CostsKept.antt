@@ -9,11 +9,12 @@ use lib.ListN.{getD, getD-replicate}
 use lib.Ieee.{Float, nan}
 use borrow.Author.Tests.{eqb-true, eqb-false}
 use Rattle.laws.specs.FloatSums.{In}
+use Rattle.numbers.specs.Constants.{zero32}
 use Rattle.complex.specs.declared.Complex32.{Complex32}
 use Rattle.taps.specs.Taps.{bothTables}
 use Rattle.trellis.specs.Metric.{c0, nought}
 use Rattle.trellis.specs.Costs.{c48, Good, fresh-good, good-same}
-use Rattle.sequence.specs.declared.soft.Soft.{Soft}
+use Rattle.answers.specs.declared.soft.Soft.{Soft}
 use Rattle.lms_detector.specs.Detector as lms_detector
 use Rattle.sequence.specs.Theorems.{costs-stepped}
 use Rattle.carrier.specs.Carrier as carrier
@@ -24,8 +25,8 @@ use Rattle.decisions.specs.Decisions as decisions
 use Rattle.chain.specs.Chain.{ChainState, recoveryOf, decisionsOf, heardOf, steppedOf}
 use Rattle.chain.specs.Rows.{Told, start, told, ranOf, chainOf}
 use Rattle.receiver_state.specs.declared.state.Receiver.{Receiver}
-use Rattle.receiver_state.specs.State.{zero32, freshReceiver}
-use Rattle.samples.specs.Run.{wholeOf}
+use Rattle.receiver_state.specs.State.{freshReceiver}
+use Rattle.run.specs.Run.{wholeRunOf}
 use Rattle.receiver.specs.Setup.{setupOf}
 use Rattle.receiver.specs.Block.{startOf, Outcome}
 use Rattle.promises.specs.Deliveries.{valuesOf, afterOf, accepted-is}
@@ -57,7 +58,7 @@ module _ (taps derivatives : List Float) where
 
 -- ---- a call, and calls one after the other
 after-keeps : (r : Receiver) (table xs : List Float) → GoodCosts (r .costs) → GoodCosts (afterOf r table xs .costs)
-unfolding afterOf wholeOf chainOf
+unfolding afterOf wholeRunOf chainOf
 after-keeps r table xs g = values-keep (bothTables .taps) (bothTables .derivatives) (valuesOf r table xs) (start (startOf r [] [] .lent .state) (r .records .slots)) g
 
 call-keeps : (r : Receiver) (c : Call) → GoodCosts (r .costs) → GoodCosts (answeredOf r c .receiver .costs)

@@ -12,10 +12,10 @@ use lib.Ieee.{Float}
 use borrow.Author.Tests.{eqb-true, eqb-false}
 use Rattle.complex.specs.declared.Complex32.{Complex32}
 use Rattle.taps.specs.Taps.{bothTables}
-use Rattle.sequence.specs.declared.soft.Soft.{Soft}
-use Rattle.sequence.specs.declared.walk.Answer.{Answer}
-use Rattle.sequence.specs.declared.walk.Answer.the-variants.{Silent, Dibit}
-use Rattle.sequence.specs.Observed.{recordBefore}
+use Rattle.answers.specs.declared.soft.Soft.{Soft}
+use Rattle.answers.specs.declared.walk.Answer.{Answer}
+use Rattle.answers.specs.declared.walk.Answer.the-variants.{Silent, Dibit}
+use Rattle.answers.specs.Observed.{recordBefore}
 use Rattle.carrier.specs.Carrier as carrier
 use Rattle.labels.specs.Labels.{rearranges, labelledOf, countedOf}
 use Rattle.recovery.specs.declared.step.Found.{Found}
@@ -26,7 +26,7 @@ use Rattle.chain.specs.Chain.{ChainState, recoveryOf, decisionsOf, Quiet, Heard
 use Rattle.chain.specs.Rows.{recordsAfter, Told, start, slotAt, nextOf, told, ranOf, chainOf}
 use Rattle.receiver_state.specs.declared.state.Receiver.{Receiver}
 use Rattle.receiver_state.specs.State.{freshReceiver, snapshotOf}
-use Rattle.samples.specs.Run.{wholeOf}
+use Rattle.run.specs.Run.{wholeRunOf}
 use Rattle.receiver.specs.Setup.{setupOf}
 use Rattle.receiver.specs.Block.{startOf, Outcome, refusedOf, blockOf}
 use Rattle.promises.specs.Deliveries.{deliveryOf, deliveries, valuesOf, deliveriesOf, afterOf, outcomeOf, length-dibits, accepted-is}
@@ -36,8 +36,8 @@ use Rattle.promises.specs.Tables.{setup-fresh}
 use Rattle.promises.specs.Taken.{Call, answeredOf}
 use Rattle.promises.specs.Calls.{stateAfter, dibitsOver, countOver, isLocked, lockedDelivery, lockedDeliveries, lockedDeliveriesOf, lockedOver}
 
-more : (m n x y both : ℕ) → m ≡ n + x → both ≡ x + y → m + y ≡ n + both
-more m n x y both e f = omega arith
+counts-add : (m n x y both : ℕ) → m ≡ n + x → both ≡ x + y → m + y ≡ n + both
+counts-add m n x y both e f = omega arith
 
 -- ---- one value: symbols grows by what it delivers, locked by what it delivers under lock
 record Counting (s : ChainState) (n : Step) : Type 0 where
@@ -86,7 +86,7 @@ module _ (taps derivatives : List Float) where
       let records = recordsAfter (n .outcome) (slotAt (t .state)) (t .records) in
       let a = length-append (deliveryOf (n .outcome)) (deliveries taps derivatives values (n .state) records) in
       let b = length-append (lockedDelivery n) (lockedDeliveries taps derivatives values (n .state) records) in
-      record { symbols = g .symbols ∙ more _ _ _ _ _ (k .symbols) a; locked = g .locked ∙ more _ _ _ _ _ (k .locked) b }
+      record { symbols = g .symbols ∙ counts-add _ _ _ _ _ (k .symbols) a; locked = g .locked ∙ counts-add _ _ _ _ _ (k .locked) b }
 
 -- ---- a block
 
@@ -100,7 +100,7 @@ pub record Counted (r : Receiver) (table xs : List Float) (o : Outcome) : Type 0
 
 module _ (r : Receiver) (table xs : List Float) (ds rs : List ℕ) where
   outcome-counts : Counted r table xs (outcomeOf r table xs ds rs)
-  unfolding afterOf wholeOf chainOf deliveriesOf lockedDeliveriesOf snapshotOf
+  unfolding afterOf wholeRunOf chainOf deliveriesOf lockedDeliveriesOf snapshotOf
   outcome-counts =
       let g = grown (bothTables .taps) (bothTables .derivatives) (valuesOf r table xs) (start (startOf r [] [] .lent .state) (r .records .slots)) in
       record {
@@ -161,14 +161,14 @@ calls-count r (c ∷ cs) =
     let b = length-append held (lockedOver (o .receiver) cs) in
     record {
       delivered = a ∙ (λ i. k .delivered i + n .delivered i);
-      symbols = n .symbols ∙ more _ _ _ _ _ (k .symbols ∙ ap (λ (x : ℕ). r .chain .symbols + x) (sym (k .delivered))) a;
-      locked = n .locked ∙ more _ _ _ _ _ (k .locked) b;
+      symbols = n .symbols ∙ counts-add _ _ _ _ _ (k .symbols ∙ ap (λ (x : ℕ). r .chain .symbols + x) (sym (k .delivered))) a;
+      locked = n .locked ∙ counts-add _ _ _ _ _ (k .locked) b;
     }
 
-one-more : (r : Receiver) (cs : List Call) (c : Call) → stateAfter r (cs ++ (c ∷ [])) ≡ answeredOf (stateAfter r cs) c .receiver
+state-one-call-on : (r : Receiver) (cs : List Call) (c : Call) → stateAfter r (cs ++ (c ∷ [])) ≡ answeredOf (stateAfter r cs) c .receiver
 unfolding stateAfter
-one-more r [] c = refl
-one-more r (d ∷ cs) c = one-more (answeredOf r d .receiver) cs c
+state-one-call-on r [] c = refl
+state-one-call-on r (d ∷ cs) c = state-one-call-on (answeredOf r d .receiver) cs c
 
 -- ---- since setup
 module _ (rate offset : Float) (profile : ℤ) (table : List Float) where
@@ -207,7 +207,7 @@ module _ (rate offset : Float) (profile : ℤ) (table : List Float) where
     shown-since-setup cs c h =
         let k = block-counts (stateAfter fresh cs) (c .table) (c .samples) (c .dibits) (c .reliabilities) h in
         let n = counts-since-setup (cs ++ (c ∷ [])) in
-        let e = sym (one-more fresh cs c) in
+        let e = sym (state-one-call-on fresh cs c) in
         record {
           symbols = k .shown-symbols ∙ ap (λ (r : Receiver). r .chain .symbols) e ∙ n .symbols;
           locked = k .shown-locked ∙ ap (λ (r : Receiver). r .chain .locked) e ∙ n .locked;

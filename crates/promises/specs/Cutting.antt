@@ -10,7 +10,7 @@ use Rattle.front.specs.Front as front
 use Rattle.chain.specs.Rows.{ranOf, chainOf}
 use Rattle.receiver_state.specs.declared.state.Receiver.{Receiver}
 use Rattle.samples.specs.Samples.{countOf, overloadOf}
-use Rattle.samples.specs.Run.{wholeOf}
+use Rattle.run.specs.Run.{wholeRunOf}
 use Rattle.receiver.specs.Block.{startOf, receiverOf, Outcome, blockOf}
 use Rattle.promises.specs.Deliveries.{deliveries, dibitsIn, bytesIn, deliveriesOf, afterOf, outcomeOf, dibits-append, bytes-append, accepted-is}
 use Rattle.promises.specs.Append.{count-append, overload-append, after-append, delivered-append}
@@ -62,14 +62,14 @@ bySamples r table xs = record {
   reliabilities = bytesIn (deliveriesOf r table xs);
 }
 
-none : (r : Receiver) (table : List Float) → sessionOf r table [] ≡ bySamples r table []
-unfolding afterOf wholeOf chainOf ranOf deliveriesOf deliveries overloadOf front.frontOf turns
-none r table =
+session-of-none : (r : Receiver) (table : List Float) → sessionOf r table [] ≡ bySamples r table []
+unfolding afterOf wholeRunOf chainOf ranOf deliveriesOf deliveries overloadOf front.frontOf turns
+session-of-none r table =
     let e : r .total ≡ r .total + 0 = omega arith in
     λ i. record { receiver = receiverOf (e i) (startOf r [] []); count = 0; overload = 0; dibits = []; reliabilities = [] }
 
-more : (r : Receiver) (table xs ys : List Float) (ds rs : List ℕ) → length xs ≡ 2 * countOf xs → after (outcomeOf r table xs ds rs) (bySamples (afterOf r table xs) table ys) ≡ bySamples r table (xs ++ ys)
-more r table xs ys ds rs even =
+session-of-more : (r : Receiver) (table xs ys : List Float) (ds rs : List ℕ) → length xs ≡ 2 * countOf xs → after (outcomeOf r table xs ds rs) (bySamples (afterOf r table xs) table ys) ≡ bySamples r table (xs ++ ys)
+session-of-more r table xs ys ds rs even =
     let f = deliveriesOf r table xs in
     let s = deliveriesOf (afterOf r table xs) table ys in
     let d = sym (delivered-append r table xs ys even) in
@@ -81,11 +81,11 @@ more r table xs ys ds rs even =
     λ i. record { receiver = receiver i; count = count i; overload = overload i; dibits = dibits i; reliabilities = bytes i }
 
 session-is : (r : Receiver) (table : List Float) (parts : List Part) → AllAccepted r table parts → sessionOf r table parts ≡ bySamples r table (samplesIn parts)
-session-is r table [] h = none r table
+session-is r table [] h = session-of-none r table
 session-is r table (c ∷ parts) h =
     ap (after (called r table c)) (session-is (called r table c .receiver) table parts (h .1))
     ∙ ap (λ (o : Outcome). after o (bySamples (o .receiver) table (samplesIn parts))) (accepted-is r table (c .samples) (c .dibits) (c .reliabilities) (h .0))
-    ∙ more r table (c .samples) (samplesIn parts) (c .dibits) (c .reliabilities) (accepted-passes r table (c .samples) (c .dibits) (c .reliabilities) (h .0) .even)
+    ∙ session-of-more r table (c .samples) (samplesIn parts) (c .dibits) (c .reliabilities) (accepted-passes r table (c .samples) (c .dibits) (c .reliabilities) (h .0) .even)
 
 -- ANY CUTTING: accepted parts that take the same samples give the same dibits and reliabilities, the same k and overload in all, and the same state at the end, wherever their blocks begin and end
 pub any-cutting : (r : Receiver) (table : List Float) (parts others : List Part) → AllAccepted r table parts → AllAccepted r table others → samplesIn parts ≡ samplesIn others → sessionOf r table parts ≡ sessionOf r table others

@@ -12,9 +12,11 @@ use lib.IntN.{ℤ}
 use lib.ListN.{length, getD, length-map, List·getD-map}
 use lib.Ieee.{Float, binary64, ofBits, ofInt, toUnsigned, add, mul, div, lt, le}
 use borrow.Author.Tests.{le-ltb}
+use Rattle.numbers.specs.Constants.{zero64}
 use Rattle.laws.specs.Turns.{turns}
 use Rattle.laws.specs.Places.{upto}
-use Rattle.numbers.specs.Numbers.{wholeOf, absOf, isFinite}
+use Rattle.numbers.specs.Numbers.{absOf, isFinite}
+use Rattle.whole.specs.Whole.{wholeOf}
 use Rattle.complex.specs.declared.Complex32.{Complex32}
 use Rattle.complex.specs.Complex.{zeroPair}
 use Rattle.oscillator.specs.declared.Oscillator.{Oscillator}
@@ -35,18 +37,20 @@ use Rattle.resampler.specs.Admitted.{Sized}
 use Rattle.resampler.specs.Ranges.{sized-in}
 use Rattle.front.specs.Front as front
 use Rattle.taps.specs.Taps.{bothTables}
-use Rattle.sequence.specs.declared.soft.Slot.{Slot}
+use Rattle.answers.specs.declared.soft.Slot.{Slot}
 use Rattle.chain.specs.Chain as chain
 use Rattle.chain.specs.Rows as rows
 use Rattle.chain.specs.RowLaws.{ran-profile}
 use Rattle.receiver_state.specs.declared.state.Receiver.{Receiver}
-use Rattle.receiver_state.specs.State.{zero64, freshReceiver}
-use Rattle.receiver.specs.Setup.{rateRefused, offsetRefused, setupOf}
-use Rattle.receiver_state.specs.Admitted.{admittedOf}
-use Rattle.receiver_state.specs.Fits.{fits-from}
+use Rattle.receiver_state.specs.State.{freshReceiver}
+use Rattle.checks.specs.Checks.{rateRefused, offsetRefused, Judged}
+use Rattle.receiver.specs.Admitted.{judgedOf}
+use Rattle.receiver.specs.Setup.{setupOf}
+use Rattle.receiver.specs.Admitted.{admittedOf}
+use Rattle.checks.specs.Fits.{fits-from}
 use Rattle.samples.specs.Samples.{countOf}
-use Rattle.samples.specs.Run.{frontAt, wholeOf as wholeRun}
-use Rattle.receiver.specs.Block.{Judged, judgedOf, startOf, acceptedOf, blockOf}
+use Rattle.run.specs.Run.{frontAt, wholeRunOf}
+use Rattle.receiver.specs.Block.{startOf, acceptedOf, blockOf}
 use Rattle.promises.specs.Tables.{setup-fresh}
 use Rattle.promises.specs.Small.{Small, small-counts}
 use Rattle.promises.specs.Taken.{Call, answeredOf, takenWhere, takenOf, rungBefore, givenAt, givenOf, mixedRow}
@@ -136,7 +140,7 @@ pub record Refused (r : Receiver) (c : Call) : Type 0 where
   pub receiver : answeredOf r c .receiver ≡ r
 
 pub answered : (r : Receiver) (c : Call) → Accepted r c ⊎ Refused r c
-unfolding blockOf acceptedOf wholeRun
+unfolding blockOf acceptedOf wholeRunOf
 answered r c = go (eqb (judged .number) 0) refl
   where
     judged : Judged

@@ -11,8 +11,8 @@ use lib.Ieee.{Float}
 use borrow.Author.Tests.{eqb-true}
 use Rattle.complex.specs.declared.Complex32.{Complex32}
 use Rattle.taps.specs.Taps.{bothTables}
-use Rattle.sequence.specs.declared.soft.Slot.{Slot}
-use Rattle.sequence.specs.declared.walk.Answer.the-variants.{Silent, Dibit}
+use Rattle.answers.specs.declared.soft.Slot.{Slot}
+use Rattle.answers.specs.declared.walk.Answer.the-variants.{Silent, Dibit}
 use Rattle.oscillator.specs.Oscillator.{conjugatedOf}
 use Rattle.chain.specs.Chain.{ChainState, Outcome as Result, Quiet, Heard}
 use Rattle.chain.specs.Rows.{dibitsOf, pairOf, recordsAfter, Told, start, slotAt, nextOf, told, ranOf, Room, laidIn, chainOf}
@@ -20,10 +20,12 @@ use Rattle.chain.specs.RowLaws.{one-most}
 use Rattle.receiver_state.specs.declared.state.Receiver.{Receiver}
 use Rattle.receiver_state.specs.State.{snapshotOf}
 use Rattle.samples.specs.Samples.{countOf, overloadOf}
-use Rattle.samples.specs.Run.{frontAt, wholeOf}
-use Rattle.samples.specs.Delivered.{values-most}
-use Rattle.receiver.specs.BlockLaws.{ready-block}
-use Rattle.receiver.specs.Block.{Judged, judgedBy, judgedOf, statedOf, startOf, receiverOf, Outcome, acceptedOf, blockBy, blockOf}
+use Rattle.run.specs.Run.{frontAt, wholeRunOf}
+use Rattle.run.specs.Delivered.{values-most}
+use Rattle.receiver.specs.Accepted.{ready-block}
+use Rattle.checks.specs.Checks.{Judged, judgedBy, statedOf}
+use Rattle.receiver.specs.Admitted.{judgedOf}
+use Rattle.receiver.specs.Block.{startOf, receiverOf, Outcome, acceptedOf, blockBy, blockOf}
 
 -- ---- the list
 
@@ -61,7 +63,7 @@ unfoldable pub deliveriesOf : Receiver → List Float → List Float → List De
 deliveriesOf r table xs = deliveries (bothTables .taps) (bothTables .derivatives) (valuesOf r table xs) (startOf r [] [] .lent .state) (r .records .slots)
 
 unfoldable pub afterOf : Receiver → List Float → List Float → Receiver
-afterOf r table xs = receiverOf (r .total + countOf xs) (wholeOf (conjugatedOf (r .chain .profile)) table xs (startOf r [] []))
+afterOf r table xs = receiverOf (r .total + countOf xs) (wholeRunOf (conjugatedOf (r .chain .profile)) table xs (startOf r [] []))
 
 -- an accepted block by what it delivers: laid over the rooms' start, and after it what lay there
 abbrev pub outcomeOf : Receiver → List Float → List Float → List ℕ → List ℕ → Outcome
@@ -123,13 +125,13 @@ module _ (taps derivatives : List Float) where
       told-bytes values (told taps derivatives t z) ∙ rw (bytes-append, bytes-one o, append-assoc)
 
   -- one a value at most
-  few : (values : List Complex32) (s : ChainState) (records : List Slot) → length (deliveries taps derivatives values s records) ≤ length values
+  at-most-one-each : (values : List Complex32) (s : ChainState) (records : List Slot) → length (deliveries taps derivatives values s records) ≤ length values
   unfolding deliveries
-  few [] s records = omega arith
-  few (z ∷ values) s records =
+  at-most-one-each [] s records = omega arith
+  at-most-one-each (z ∷ values) s records =
       let n = nextOf taps derivatives s records z in
       let a = one-delivered (n .outcome) in
-      let b = few values (n .state) (recordsAfter (n .outcome) (slotAt s) records) in
+      let b = at-most-one-each values (n .state) (recordsAfter (n .outcome) (slotAt s) records) in
       simp length-append (omega arith)
 
 -- THE LAW of the chain: what it leaves in its room is its deliveries, put there from the first place that is not written on
@@ -150,7 +152,7 @@ total-after r table xs = refl
 pub delivered-few : (r : Receiver) (table xs : List Float) → length (deliveriesOf r table xs) ≤ 2 * countOf xs
 unfolding deliveriesOf
 delivered-few r table xs =
-    let a = few (bothTables .taps) (bothTables .derivatives) (valuesOf r table xs) (startOf r [] [] .lent .state) (r .records .slots) in
+    let a = at-most-one-each (bothTables .taps) (bothTables .derivatives) (valuesOf r table xs) (startOf r [] [] .lent .state) (r .records .slots) in
     let b : length (valuesOf r table xs) ≤ 0 + 2 * countOf xs = values-most (conjugatedOf (r .chain .profile)) table xs (countOf xs) (record { rung = startOf r [] [] .rung; values = [] }) in
     omega arith
 
@@ -172,7 +174,7 @@ laid-front vs l k e h =
     sets-eq vs l 0 (omega arith) ∙ ap (λ (j : ℕ). vs ++ drop j l) m
 
 laid : (r : Receiver) (table xs : List Float) (ds rs : List ℕ) → length (deliveriesOf r table xs) ≤ length ds → 2 * length (deliveriesOf r table xs) ≤ length rs → acceptedOf r table xs (overloadOf xs) ds rs ≡ outcomeOf r table xs ds rs
-unfolding acceptedOf wholeOf chainOf deliveriesOf afterOf
+unfolding acceptedOf wholeRunOf chainOf deliveriesOf afterOf
 laid r table xs ds rs h k =
     let l = deliveriesOf r table xs in
     let a = length-dibits l in

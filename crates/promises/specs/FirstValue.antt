@@ -11,8 +11,9 @@ use lib.IntN.{pos}
 use lib.ListN.{length, getD, set, take}
 use lib.Ieee.{Float, binary64, ofBits, ofInt, toUnsigned, sub, mul}
 use borrow.Author.Tests.{lt-ltb, le-ltb}
+use Rattle.numbers.specs.Constants.{zero64}
 use Rattle.laws.specs.Turns.{turns, until, until-stop}
-use Rattle.numbers.specs.Numbers.{wholeOf}
+use Rattle.whole.specs.Whole.{wholeOf}
 use Rattle.complex.specs.declared.Complex32.{Complex32}
 use Rattle.decimator.specs.declared.Output.{Output}
 use Rattle.decimator.specs.declared.Output.the-variants.{Nothing, Value}
@@ -23,7 +24,7 @@ use Rattle.front.specs.Resample.{ResamplerState, resampleState, resampleValues}
 use Rattle.resampler.specs.Pass.{placedOf, waitingOf, filteredOf, startOf, isDone, passTurn, deliveredOf, pushedOf, resampledOf}
 use Rattle.resampler.specs.AdmittedLaws.{count-emitted}
 use Rattle.receiver_state.specs.declared.state.Receiver.{Receiver}
-use Rattle.receiver_state.specs.State.{zero64, freshReceiver}
+use Rattle.receiver_state.specs.State.{freshReceiver}
 use Rattle.promises.specs.Tables.{setup-fresh}
 use Rattle.promises.specs.Taken.{givenOf}
 use Rattle.promises.specs.Decimates.{p9-sizes}
@@ -50,18 +51,18 @@ first-position = refl
 value-waits : (j : ℕ) (h : ResamplerState) → Filling j h → waitingOf (pushedOf (h .resampler)) (placedOf (h .resampler .next)) ≡ ltb (j + 1) 288
 value-waits j h k = (λ i. ltb (k .index i + 1) (placedOf (k .next i) .position + (k .arm i - k .half i))) ∙ ap (λ (p : ℕ). ltb (j + 1) (p + (288 - 144))) first-position
 
-fills : (j : ℕ) (h : ResamplerState) (v : Complex32) → j + 1 < 288 → Filling j h → Filling (j + 1) (resampleState [] h (Value v))
+filling-one-more : (j : ℕ) (h : ResamplerState) (v : Complex32) → j + 1 < 288 → Filling j h → Filling (j + 1) (resampleState [] h (Value v))
 unfolding resampleState resampledOf deliveredOf
-fills j h v l k =
+filling-one-more j h v l k =
     let q = pushedOf (h .resampler) in
     let xs = set (h .real) (h .resampler .write) (v .real) in
     let ys = set (h .imaginary) (h .resampler .write) (v .imaginary) in
     let e = until-stop (isDone q) (passTurn q [] xs ys) 2 (startOf (q .next)) (value-waits j h k ∙ lt-ltb (j + 1) 288 l) in
     record { arm = k .arm; half = k .half; index = ap (λ (n : ℕ). n + 1) (k .index); next = ap (λ (d : Delivery). d .next) e ∙ k .next }
 
-stays : (j : ℕ) (h : ResamplerState) → Filling j h → Filling j (resampleState [] h Nothing)
+filling-stays : (j : ℕ) (h : ResamplerState) → Filling j h → Filling j (resampleState [] h Nothing)
 unfolding resampleState
-stays j h k = k
+filling-stays j h k = k
 
 -- the 288th makes a value
 some-made : (stop : Delivery → Bool) (f : Delivery → Delivery) (d : Delivery) → ((e : Delivery) → f e .count ≡ e .count + 1) → stop d ≡ false → 0 < until stop f 2 d .count
@@ -95,16 +96,16 @@ module _ (os : List Output) (P : Paced 2 0 os) (h : ResamplerState) (k : Filling
     | inl e ↦
         let o = P .sounds n (omega arith) e in
         subst (λ (j : ℕ). Filling j (resampleState [] (ringAfter h os n) (getD os n Nothing))) (let f : n / 2 + 1 ≡ suc n / 2 = omega arith in f)
-        (subst (λ (x : Output). Filling (n / 2 + 1) (resampleState [] (ringAfter h os n) x)) (sym (o .1)) (fills (n / 2) (ringAfter h os n) (o .0) (omega arith) (filling-at n (omega arith) (omega arith))))
+        (subst (λ (x : Output). Filling (n / 2 + 1) (resampleState [] (ringAfter h os n) x)) (sym (o .1)) (filling-one-more (n / 2) (ringAfter h os n) (o .0) (omega arith) (filling-at n (omega arith) (omega arith))))
     | inr p ↦
         subst (λ (j : ℕ). Filling j (resampleState [] (ringAfter h os n) (getD os n Nothing))) (let f : n / 2 ≡ suc n / 2 = omega arith in f)
-        (subst (λ (x : Output). Filling (n / 2) (resampleState [] (ringAfter h os n) x)) (sym (P .quiet n (omega arith) (λ e. omega arith))) (stays (n / 2) (ringAfter h os n) (filling-at n (omega arith) (omega arith))))
+        (subst (λ (x : Output). Filling (n / 2) (resampleState [] (ringAfter h os n) x)) (sym (P .quiet n (omega arith) (λ e. omega arith))) (filling-stays (n / 2) (ringAfter h os n) (filling-at n (omega arith) (omega arith))))
   ]
 
 -- ---- from the setup
-starts : Filling 0 (ringIn receiver)
+filling-none : Filling 0 (ringIn receiver)
 unfolding freshReceiver resampler.freshOf
-starts =
+filling-none =
     let e = setup-fresh rate zero64 (pos 0) lent setup-accepted .receiver in
     record {
       arm = setup-arm rate zero64 (pos 0) lent setup-accepted ∙ p9-sizes .1;
@@ -127,6 +128,6 @@ first-value =
     let none = counts-none in
     let P : Paced 2 0 os = subst (λ (j : ℕ). Paced 2 j os) counts-none (given-paced 2 receiver cs (record { by = setup-decimation rate zero64 (pos 0) lent setup-accepted ∙ p9-sizes .0; early = omega arith })) in
     let o = P .sounds 575 (omega arith) refl in
-    let k = filling-at os P (ringIn receiver) starts 575 (omega arith) (omega arith) in
+    let k = filling-at os P (ringIn receiver) filling-none 575 (omega arith) (omega arith) in
     let m = value-made (getD (tablesOf receiver cs) 575 []) (ringAfter (ringIn receiver) os 575) (o .0) k in
     (m .0, (m .1 .0, made-at receiver cs 575 (omega arith) ∙ ap (resampleValues (getD (tablesOf receiver cs) 575 []) (ringAfter (ringIn receiver) os 575)) (o .1) ∙ m .1 .1))

@@ -14,7 +14,7 @@ use lib.Ieee.{Float, mul, ofBits, toSigned}
 use borrow.Author.Tests.{lt-ltb, le-ltb, le-leb}
 use Rattle.laws.specs.Places.{upto}
 use Rattle.laws.specs.Ring.{latest, lt-or-ge}
-use Rattle.numbers.specs.Numbers.{wholeOf}
+use Rattle.whole.specs.Whole.{wholeOf}
 use Rattle.complex.specs.declared.Complex32.{Complex32}
 use Rattle.complex.specs.Complex.{zeroPair}
 use Rattle.decimator.specs.declared.Output.{Output}

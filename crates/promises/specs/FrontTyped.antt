@@ -10,12 +10,14 @@ use lib.IntN.{ℤ}
 use lib.ListN.{length, length-set, length-replicate}
 use lib.Ieee.{Float}
 use Rattle.laws.specs.Turns.{turns}
+use Rattle.laws.specs.Modulo.{modulo}
+use Rattle.numbers.specs.Constants.{zero32}
 use Rattle.complex.specs.declared.Complex32.{Complex32}
 use Rattle.decimator.specs.declared.Sums.{Sums}
 use Rattle.decimator.specs.declared.Decimator.{Decimator}
 use Rattle.decimator.specs.declared.Output.{Output}
 use Rattle.decimator.specs.declared.Output.the-variants.{Nothing, Value}
-use Rattle.decimator.specs.Decimator.{modulo, integratedOf, advancedOf, countsOf, freshOf, steppedOf}
+use Rattle.decimator.specs.Decimator.{integratedOf, advancedOf, countsOf, freshOf, steppedOf}
 use Rattle.decimator.specs.Part.{Words}
 use Rattle.oscillator.specs.Oscillator.{conjugatedOf, mixedOf}
 use Rattle.front.specs.Resample.{ResamplerState, resampleState}
@@ -24,7 +26,7 @@ use Rattle.resampler.specs.Dimensions.{sizedOf}
 use Rattle.resampler.specs.Dimensions as resampler
 use Rattle.front.specs.Front as front
 use Rattle.receiver_state.specs.declared.state.Receiver.{Receiver}
-use Rattle.receiver_state.specs.State.{zero32, freshReceiver}
+use Rattle.receiver_state.specs.State.{freshReceiver}
 use Rattle.samples.specs.Samples.{countOf}
 use Rattle.receiver.specs.Block.{startOf}
 use Rattle.receiver.specs.Setup.{setupOf}
@@ -89,17 +91,17 @@ step-words s z a b = go (ltb 1 (s .decimation)) (ltb (s .counter + 1) (s .decima
     go true false e f = rw (e, f) (x, y)
     go false c e f = rw e (a, b)
 
-heard-size : (table : List Float) (h : ResamplerState) (o : Output) → (length (resampleState table h o .real) ≡ length (h .real)) × (length (resampleState table h o .imaginary) ≡ length (h .imaginary))
+ring-size-kept : (table : List Float) (h : ResamplerState) (o : Output) → (length (resampleState table h o .real) ≡ length (h .real)) × (length (resampleState table h o .imaginary) ≡ length (h .imaginary))
 unfolding resampleState resampledOf
-heard-size table h Nothing = (refl, refl)
-heard-size table h (Value v) = (length-set (h .real) (h .resampler .write) (v .real), length-set (h .imaginary) (h .resampler .write) (v .imaginary))
+ring-size-kept table h Nothing = (refl, refl)
+ring-size-kept table h (Value v) = (length-set (h .real) (h .resampler .write) (v .real), length-set (h .imaginary) (h .resampler .write) (v .imaginary))
 
 step-sound : (conjugated : Bool) (table : List Float) (g : front.Rung) (x : Complex32) → Sound g → Sound (front.frontStep conjugated table g x .rung)
 unfolding front.frontStep
 step-sound conjugated table g x k =
     let z = mixedOf (g .place .oscillator) x conjugated in
     let w = step-words (g .place .decimator) z (k .real-words) (k .imaginary-words) in
-    let e = heard-size table (front.ringOf g) (steppedOf (g .place .decimator) z .output) in
+    let e = ring-size-kept table (front.ringOf g) (steppedOf (g .place .decimator) z .output) in
     record { real-words = w .0; imaginary-words = w .1; ring-real = e .0 ∙ k .ring-real; ring-imaginary = e .1 ∙ k .ring-imaginary }
 
 front-sound : (conjugated : Bool) (table xs : List Float) (n : ℕ) (h : front.Run) → Sound (h .rung) → Sound (front.frontOf conjugated table xs n h .rung)

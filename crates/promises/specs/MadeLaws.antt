@@ -31,11 +31,11 @@ use Rattle.front.specs.FiltersForget.{Like, like-other, like-more, values-same}
 use Rattle.front.specs.Front as front
 use Rattle.oscillator.specs.Oscillator.{conjugatedOf}
 use Rattle.receiver_state.specs.declared.state.Receiver.{Receiver}
-use Rattle.receiver_state.specs.Admitted.{admittedOf}
+use Rattle.receiver.specs.Admitted.{admittedOf}
 use Rattle.front.specs.Admitted.{Admitted as FrontAdmitted}
-use Rattle.receiver_state.specs.Fits.{fits-from}
+use Rattle.checks.specs.Fits.{fits-from}
 use Rattle.samples.specs.Samples.{countOf}
-use Rattle.samples.specs.Run.{frontAt}
+use Rattle.run.specs.Run.{frontAt}
 use Rattle.receiver.specs.Block.{startOf}
 use Rattle.promises.specs.Deliveries.{valuesOf}
 use Rattle.promises.specs.Accepts.{accepted-passes}
@@ -238,7 +238,7 @@ given-paced d r cs k =
     let e = outputs-length s zs in
     subst (Paced d (s .counter)) (sym (given-is r cs)) (record { sounds = λ n l f. row-sounds d s k zs n (omega arith) f; quiet = λ n l f. row-quiet d s k zs n (omega arith) f })
 
--- ---- two rows of outputs with the same pace, into two rings of which the latest `lead` values agree
+-- ---- two rows of outputs with the same sounds-again, into two rings of which the latest `lead` values agree
 one-value : (o q : Output) (v w : Complex32) → o ≡ Value v → q ≡ Value w → o ≡ q → v ≡ w
 one-value o q v w e f s = cc
 
@@ -265,56 +265,58 @@ module _ (d since lead : ℕ) (D : 0 < d) (os ps : List Output) (P : Paced d sin
   arm-after zero = refl
   arm-after (suc n) = arm-stays (ringAfter h os n) (getD os n Nothing) ∙ arm-after n
 
-  loud-at : (n : ℕ) (v w : Complex32) → getD os n Nothing ≡ Value v → getD ps n Nothing ≡ Value w
+  -- a value more in each ring: where both are the same, one more of the latest agrees
+  latest-agree-on : (n : ℕ) (v w : Complex32) → getD os n Nothing ≡ Value v → getD ps n Nothing ≡ Value w
       → ((k : ℕ) → k ≤ h .resampler .arm → k * d ≤ lead * d + since + n → ((i : ℕ) → i < n → n ≤ i + k * d → Same i) → Like k (ringAfter h os n) (ringAfter g ps n))
       → (k : ℕ) → k ≤ h .resampler .arm → k * d ≤ lead * d + since + suc n → ((i : ℕ) → i < suc n → suc n ≤ i + k * d → Same i)
       → Like k (resampleState [] (ringAfter h os n) (Value v)) (resampleState [] (ringAfter g ps n) (Value w))
-  loud-at n v w e f before zero K m same = like-other [] 0 (ringAfter h os n) (ringAfter g ps n) (before 0 K (omega arith) (λ i a b. absurd (omega arith))) v w
-  loud-at n v w e f before (suc k) K m same =
+  latest-agree-on n v w e f before zero K m same = like-other [] 0 (ringAfter h os n) (ringAfter g ps n) (before 0 K (omega arith) (λ i a b. absurd (omega arith))) v w
+  latest-agree-on n v w e f before (suc k) K m same =
       subst (λ (j : ℕ). Like j (resampleState [] (ringAfter h os n) (Value v)) (resampleState [] (ringAfter g ps n) (Value w))) (add-one k)
       (like-more [] k (ringAfter h os n) (ringAfter g ps n) (before k (omega arith) (omega arith) (λ i a b. same i (omega arith) (omega arith))) v w
       (let a = arm-after n in omega arith) (one-value (getD os n Nothing) (getD ps n Nothing) v w e f (same n (omega arith) (omega arith))))
 
   -- d places on the row sounds again, or is quiet again
-  pace : (i k n : ℕ) → n ≡ i + k * d → (since + i + 1) % d ≡ 0 → (since + n + 1) % d ≡ 0
-  pace i k n e z = ap (λ (m : ℕ). m % d) (let f : since + n + 1 ≡ since + i + 1 + k * d = omega arith in f) ∙ add-mul-mod-self-right (since + i + 1) k d ∙ z
+  sounds-again : (i k n : ℕ) → n ≡ i + k * d → (since + i + 1) % d ≡ 0 → (since + n + 1) % d ≡ 0
+  sounds-again i k n e z = ap (λ (m : ℕ). m % d) (let f : since + n + 1 ≡ since + i + 1 + k * d = omega arith in f) ∙ add-mul-mod-self-right (since + i + 1) k d ∙ z
 
-  whole : (n k : ℕ) → k * d ≡ lead * d + since + suc n → (since + n + 1) % d ≡ 0
-  whole n k e = sym (add-mul-mod-self-right (since + n + 1) lead d) ∙ ap (λ (m : ℕ). m % d) (let f : since + n + 1 + lead * d ≡ k * d = omega arith in f) ∙ mul-mod-left k d
+  -- where the samples up to this one fill whole lots of d, it sounds
+  sounds-at-whole : (n k : ℕ) → k * d ≡ lead * d + since + suc n → (since + n + 1) % d ≡ 0
+  sounds-at-whole n k e = sym (add-mul-mod-self-right (since + n + 1) lead d) ∙ ap (λ (m : ℕ). m % d) (let f : since + n + 1 + lead * d ≡ k * d = omega arith in f) ∙ mul-mod-left k d
 
   -- the latest k values agree where the outputs of the latest k d samples do
-  like-at : (n : ℕ) → n ≤ length os → n ≤ length ps → (k : ℕ) → k ≤ h .resampler .arm → k * d ≤ lead * d + since + n → ((i : ℕ) → i < n → n ≤ i + k * d → Same i) → Like k (ringAfter h os n) (ringAfter g ps n)
+  latest-agree : (n : ℕ) → n ≤ length os → n ≤ length ps → (k : ℕ) → k ≤ h .resampler .arm → k * d ≤ lead * d + since + n → ((i : ℕ) → i < n → n ≤ i + k * d → Same i) → Like k (ringAfter h os n) (ringAfter g ps n)
   unfolding turns
-  like-at zero a b k K m same = start k K (omega arith)
-  like-at (suc n) a b k K m same = elim (eq-zero-or-pos ((since + n + 1) % d)) [
+  latest-agree zero a b k K m same = start k K (omega arith)
+  latest-agree (suc n) a b k K m same = elim (eq-zero-or-pos ((since + n + 1) % d)) [
     | inl e ↦
         let o = P .sounds n (omega arith) e in
         let q = Q .sounds n (omega arith) e in
         subst (λ (x : Output). Like k (resampleState [] (ringAfter h os n) x) (resampleState [] (ringAfter g ps n) (getD ps n Nothing))) (sym (o .1))
         (subst (λ (y : Output). Like k (resampleState [] (ringAfter h os n) (Value (o .0))) (resampleState [] (ringAfter g ps n) y)) (sym (q .1))
-        (loud-at n (o .0) (q .0) (o .1) (q .1) (like-at n (omega arith) (omega arith)) k K m same))
+        (latest-agree-on n (o .0) (q .0) (o .1) (q .1) (latest-agree n (omega arith) (omega arith)) k K m same))
     | inr p ↦
         let none : (since + n + 1) % d ≡ 0 → ⊥ = λ e. absurd (omega arith) in
-        let m' : k * d ≤ lead * d + since + n = ⊎-elim (λ l. omega arith) (λ e. absurd (none (whole n k e))) (le-or (k * d) (lead * d + since + suc n) m) in
+        let m' : k * d ≤ lead * d + since + n = ⊎-elim (λ l. omega arith) (λ e. absurd (none (sounds-at-whole n k e))) (le-or (k * d) (lead * d + since + suc n) m) in
         quiet-stays k (ringAfter h os n) (ringAfter g ps n) (getD os n Nothing) (getD ps n Nothing) (P .quiet n (omega arith) none) (Q .quiet n (omega arith) none)
-        (like-at n (omega arith) (omega arith) k K m' (λ i l j.
+        (latest-agree n (omega arith) (omega arith) k K m' (λ i l j.
         ⊎-elim
         (λ f. same i (omega arith) f)
-        (λ f. P .quiet i (omega arith) (λ z. none (pace i k n f z)) ∙ sym (Q .quiet i (omega arith) (λ z. none (pace i k n f z))))
+        (λ f. P .quiet i (omega arith) (λ z. none (sounds-again i k n f z)) ∙ sym (Q .quiet i (omega arith) (λ z. none (sounds-again i k n f z))))
         (le-or n (i + k * d) j)))
   ]
 
   -- so with c of them the values made are the same, by whatever table
-  heard-at : (n : ℕ) → n < length os → n < length ps → 0 < h .resampler .arm → (h .resampler .arm - 1) * d ≤ lead * d + since + n → ((i : ℕ) → i ≤ n → n ≤ i + (h .resampler .arm - 1) * d → Same i)
+  same-values-made : (n : ℕ) → n < length os → n < length ps → 0 < h .resampler .arm → (h .resampler .arm - 1) * d ≤ lead * d + since + n → ((i : ℕ) → i ≤ n → n ≤ i + (h .resampler .arm - 1) * d → Same i)
       → (table : List Float) → resampleValues table (ringAfter h os n) (getD os n Nothing) ≡ resampleValues table (ringAfter g ps n) (getD ps n Nothing)
-  heard-at n a b C m same table = elim (eq-zero-or-pos ((since + n + 1) % d)) [
+  same-values-made n a b C m same table = elim (eq-zero-or-pos ((since + n + 1) % d)) [
     | inl e ↦
         let o = P .sounds n a e in
         let q = Q .sounds n b e in
         let c = arm-after n in
         ap (resampleValues table (ringAfter h os n)) (o .1)
         ∙ values-same table (h .resampler .arm - 1) (ringAfter h os n) (ringAfter g ps n)
-        (like-at n (omega arith) (omega arith) (h .resampler .arm - 1) (omega arith) m (λ i l j. same i (omega arith) j)) (o .0) (q .0) (omega arith)
+        (latest-agree n (omega arith) (omega arith) (h .resampler .arm - 1) (omega arith) m (λ i l j. same i (omega arith) j)) (o .0) (q .0) (omega arith)
         (one-value (getD os n Nothing) (getD ps n Nothing) (o .0) (q .0) (o .1) (q .1) (same n (omega arith) (omega arith))) (omega arith)
         ∙ sym (ap (resampleValues table (ringAfter g ps n)) (q .1))
     | inr p ↦
@@ -348,7 +350,7 @@ module _ (r q : Receiver) (cs es : List Call) (n lead : ℕ) (l : n < length (ta
       let low = fits .resampler .arm-low in
       made-at r cs n l
       ∙ ap (λ (t : List Float). resampleValues t (ringAfter (ringIn r) (givenOf r cs) n) (getD (givenOf r cs) n Nothing)) table
-      ∙ heard-at d since lead (fits .decimator .decimation-low) (givenOf r cs) (givenOf q es) (given-paced d r cs (record { by = refl; early = early }))
+      ∙ same-values-made d since lead (fits .decimator .decimation-low) (givenOf r cs) (givenOf q es) (given-paced d r cs (record { by = refl; early = early }))
       (subst (λ (k : ℕ). Paced d k (givenOf q es)) (sym counter) (given-paced d q es (record { by = sym decimation; early = omega arith })))
       (ringIn r) (ringIn q) start n (omega arith) (omega arith) (omega arith) full same (getD (tablesOf q es) n [])
       ∙ sym (made-at q es n m)

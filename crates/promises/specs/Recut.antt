@@ -10,7 +10,7 @@ use lib.Ieee.{Float}
 use Rattle.laws.specs.Turns.{turns}
 use Rattle.laws.specs.Branches.{and-true}
 use Rattle.receiver_state.specs.declared.state.Receiver.{Receiver}
-use Rattle.receiver_state.specs.Admitted.{admittedOf}
+use Rattle.receiver.specs.Admitted.{admittedOf}
 use Rattle.samples.specs.Samples.{countOf, finiteOf}
 use Rattle.receiver.specs.Block.{Outcome}
 use Rattle.promises.specs.Deliveries.{total-after, accepted-is}

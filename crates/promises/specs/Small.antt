@@ -17,7 +17,8 @@ use Rattle.laws.specs.Ring.{lt-or-ge}
 use Rattle.laws.specs.FloatOrder.{le→, lt→le}
 use Rattle.laws.specs.FloatSums.{In, in-finite, in-wider, add-in, sub-in}
 use Rattle.laws.specs.FloatProducts.{mul-in}
-use Rattle.numbers.specs.Numbers.{wholeOf, convert}
+use Rattle.numbers.specs.Numbers.{convert}
+use Rattle.whole.specs.Whole.{wholeOf}
 use Rattle.complex.specs.declared.Complex32.{Complex32}
 use Rattle.complex.specs.Complex.{zeroPair}
 use Rattle.oscillator.specs.declared.Oscillator.{Oscillator}

@@ -20,11 +20,12 @@ use Rattle.signal.specs.Signal as signal
 use Rattle.signal.specs.Laws.{length-parts}
 use Rattle.receiver_state.specs.declared.state.Receiver.{Receiver}
 use Rattle.receiver_state.specs.State.{zeroReceiver, freshFront, freshReceiver}
-use Rattle.receiver.specs.Setup.{rateRefused, offsetRefused, tableRefused, setupOf}
+use Rattle.checks.specs.Checks.{rateRefused, offsetRefused, tableRefused}
+use Rattle.receiver.specs.Setup.{setupOf}
 use Rattle.receiver.specs.Reading.{readingOf}
-use Rattle.receiver_state.specs.Admitted.{admittedOf}
-use Rattle.receiver.specs.Ways.{rate-admitted}
-use Rattle.receiver_state.specs.Laws.{zero-refused}
+use Rattle.receiver.specs.Admitted.{admittedOf}
+use Rattle.checks.specs.Ways.{rate-admitted}
+use Rattle.receiver.specs.Laws.{zero-refused}
 use Rattle.promises.specs.Written.{OnlyFirst, only-first}
 
 -- ---- setup

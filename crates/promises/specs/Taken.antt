@@ -12,7 +12,7 @@ use Rattle.decimator.specs.declared.Output.{Output}
 use Rattle.front.specs.Front as front
 use Rattle.receiver_state.specs.declared.state.Receiver.{Receiver}
 use Rattle.samples.specs.Samples.{countOf}
-use Rattle.samples.specs.Run.{frontAt}
+use Rattle.run.specs.Run.{frontAt}
 use Rattle.receiver.specs.Block.{Outcome, startOf, blockOf}
 
 -- what a block is called with

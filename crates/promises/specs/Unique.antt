@@ -9,7 +9,7 @@ use Rattle.receiver_state.specs.declared.state.Receiver.{Receiver}
 use Rattle.receiver.specs.declared.setup.Setup.{Setup}
 use Rattle.receiver.specs.declared.block.Block.{Block}
 use Rattle.receiver.specs.declared.reading.Points.{Points}
-use Rattle.receiver_state.specs.Laws.{number-tells}
+use Rattle.checks.specs.Laws.{number-tells}
 use Rattle.receiver.specs.Setup.{SetUp, setupNow, setupOf}
 use Rattle.receiver.specs.Block.{Outcome, outcomeNow, blockOf}
 use Rattle.receiver.specs.Reading.{Reading, pointsNow, readingOf}

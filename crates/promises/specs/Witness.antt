@@ -11,13 +11,14 @@ use lib.ListN.{length, getD, replicate, length-replicate, getD-replicate}
 use lib.Ieee.{Float, binary64, ofBits}
 use Rattle.laws.specs.Places.{upto, length-upto, all-true}
 use Rattle.numbers.specs.Numbers.{isFinite}
+use Rattle.numbers.specs.Constants.{zero32, zero64}
 use Rattle.complex.specs.declared.Complex32.{Complex32}
 use Rattle.complex.specs.Complex.{zeroPair}
 use Rattle.decimator.specs.declared.Output.the-variants.{Nothing, Value}
 use Rattle.resampler.specs.Dimensions.{sizedOf}
 use Rattle.front.specs.Front as front
 use Rattle.receiver_state.specs.declared.state.Receiver.{Receiver}
-use Rattle.receiver_state.specs.State.{zero64, zero32, zeroes, freshReceiver}
+use Rattle.receiver_state.specs.State.{zeroes, freshReceiver}
 use Rattle.samples.specs.Samples.{countOf, realOf, imaginaryOf, finiteOf}
 use Rattle.receiver.specs.Setup.{setupOf}
 use Rattle.receiver.specs.Laws.{setup-admitted}

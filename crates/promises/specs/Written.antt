@@ -9,7 +9,9 @@ use lib.ListN.{length, drop, length-append, length-drop}
 use lib.Seq.{drop-at}
 use lib.Ieee.{Float}
 use Rattle.receiver_state.specs.declared.state.Receiver.{Receiver}
-use Rattle.receiver.specs.Block.{Judged, judgedOf, Outcome, acceptedOf, refusedOf, blockBy, blockOf}
+use Rattle.checks.specs.Checks.{Judged}
+use Rattle.receiver.specs.Admitted.{judgedOf}
+use Rattle.receiver.specs.Block.{Outcome, acceptedOf, refusedOf, blockBy, blockOf}
 use Rattle.promises.specs.Deliveries.{deliveriesOf, dibitsIn, bytesIn, length-dibits, length-bytes, delivered-fits, accepted-is}
 
 -- only the first n places were written: the length is kept, and from place n on lies what lay there

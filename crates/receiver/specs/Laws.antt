@@ -1,17 +1,58 @@
--- A setup that is accepted leaves an admitted state. Assumes nothing.
-use mathlib.Core.Path.{_≡_, refl, sym}
+-- The state of zeros is not admitted, a fresh one is, and so is the one that an accepted setup leaves. Assumes nothing.
+use mathlib.Core.Path.{_≡_, refl, sym, subst}
 use mathlib.Core.Bool.{Bool, true, false}
 use mathlib.Core.List.{List}
+use Prim.Native.Nat.{ℕ, _<_}
 use native.Mathlib.Omega.{arith}
 use lib.IntN.{ℤ}
-use lib.ListN.{length}
+use lib.ListN.{length, getD-replicate}
 use lib.Ieee.{Float}
+use Rattle.resampler.specs.declared.dimensions.Dimensions.{Dimensions}
+use Rattle.resampler.specs.Admitted.{Sized}
+use Rattle.resampler.specs.Ranges.{sized-in, fresh-admitted as fresh-ready}
+use Rattle.resampler.specs.Dimensions as resampler
 use Rattle.resampler.specs.Dimensions.{sizedOf}
-use Rattle.resampler.specs.Ranges.{sized-in}
-use Rattle.receiver_state.specs.Admitted.{admittedOf}
-use Rattle.receiver_state.specs.Laws.{fresh-fits}
-use Rattle.receiver.specs.Setup.{rateRefused, offsetRefused, tableRefused, setupOf}
-use Rattle.receiver.specs.Ways.{rate-admitted}
+use Rattle.decimator.specs.Decimator as decimator
+use Rattle.peak.specs.Laws as PeakLaws
+use Rattle.clock.specs.Laws.{fresh-admitted}
+use Rattle.signal.specs.Laws as SignalLaws
+use Rattle.receiver_state.specs.State.{zeroReceiver, zeroFront, zeroChain, freshFront, freshReceiver}
+use Rattle.checks.specs.Admitted.{stateFits, totalsFit}
+use Rattle.checks.specs.Fits.{fits-to}
+use Rattle.checks.specs.Checks.{rateRefused, offsetRefused, tableRefused}
+use Rattle.checks.specs.Ways.{rate-admitted}
+use Rattle.receiver.specs.Admitted.{admittedOf}
+use Rattle.receiver.specs.Setup.{setupOf}
+
+-- the state that a refused setup gives
+pub zero-refused : admittedOf zeroReceiver ≡ false
+unfolding zeroReceiver zeroFront zeroChain stateFits totalsFit decimator.freshOf
+zero-refused = refl
+
+-- and an accepted one
+pub fresh-fits : (rate offset : Float) (profile : ℤ) (d : Dimensions) → Sized d → admittedOf (freshReceiver (freshFront rate offset d) profile) ≡ true
+unfolding freshReceiver decimator.freshOf resampler.freshOf
+fresh-fits rate offset profile d k =
+    let r = freshReceiver (freshFront rate offset d) profile in
+    let a = k .decimation-low in
+    fits-to (r .total) (r .front) (r .chain) (r .parents) (record {
+      total-in = omega arith;
+      index-in = omega arith;
+      locked-in = omega arith;
+      symbols-in = omega arith;
+      front-fits = record {
+        oscillator = record { renormalize-in = omega arith };
+        decimator = record { decimation-low = a; decimation-high = k .decimation-high; counter-in = omega arith };
+        resampler = fresh-ready d k;
+      };
+      chain-fits = record {
+        keeper = PeakLaws.fresh-admitted;
+        clock = fresh-admitted;
+        carrier = record { alternation = omega arith; detector = record { write = omega arith; filled = omega arith; earlier = tt } };
+        view = SignalLaws.fresh-admitted;
+      };
+      table = record { below = λ i l. subst (λ (n : ℕ). n < 64) (sym (getD-replicate 2048 i 0 0 l)) (let z : 0 < 64 = omega arith in z) };
+    })
 
 pub setup-admitted : (rate offset : Float) (profile : ℤ) (table : List Float) → setupOf rate offset profile table .number ≡ 0 → admittedOf (setupOf rate offset profile table .receiver) ≡ true
 unfolding setupOf

@@ -1,7 +1,8 @@
+pub mod Admitted
 pub mod Setup
 pub mod Reading
 pub mod Ways
+pub mod Accepted
 pub mod Block
-pub mod BlockWays
 pub mod BlockLaws
 pub mod Laws

@@ -1,17 +1,15 @@
 -- A reading of the constellation: what it gives for each state and lent floats. Definitions only.
 use Prim.Native.Nat.{ℕ}
-use mathlib.Core.Bool.{cond, not}
-use mathlib.Core.List.{List, [], _∷_}
+use mathlib.Core.Bool.{cond}
+use mathlib.Core.List.{List}
 use lib.Dec.{eqb}
 use lib.Ieee.{Float, binary64, ofBits}
 use Rattle.signal.specs.Signal.{Read, viewOf, readOf}
 use Rattle.receiver_state.specs.declared.state.Receiver.{Receiver}
 use Rattle.receiver.specs.declared.reading.Points.{Points}
-use Rattle.receiver_state.specs.Refusal.{numberOf, Check, firstOf}
-use Rattle.receiver_state.specs.Admitted.{admittedOf}
-
-abbrev pub readingChecks : Receiver → List Check
-readingChecks r = record { number = 7; applies = not (admittedOf r) } ∷ []
+use Rattle.checks.specs.Refusal.{numberOf, firstOf}
+use Rattle.checks.specs.Checks.{readingChecks}
+use Rattle.receiver.specs.Admitted.{admittedOf}
 
 -- the refusal's number or 0, how many points, their error, and the lent floats
 pub record Reading : Type 0 where
@@ -33,4 +31,4 @@ readingBy number r output =
     (record { number = number; count = 0; error = ofBits binary64 0; output = output })
 
 unfoldable pub readingOf : Receiver → List Float → Reading
-readingOf r output = readingBy (firstOf (readingChecks r)) r output
+readingOf r output = readingBy (firstOf (readingChecks (admittedOf r))) r output

@@ -1,58 +1,29 @@
 -- Setup and reading, by their ways out: what the code gives there is what the definition says. Assumes nothing.
-use mathlib.Core.Path.{_≡_, refl, sym, _∙_}
-use mathlib.Core.Bool.{Bool, true, false, not, _||_, true≢false}
+use mathlib.Core.Path.{_≡_, sym, _∙_}
+use mathlib.Core.Bool.{Bool, true, false}
 use mathlib.Core.List.{List}
 use Prim.Native.Nat.{_*_, _≤_, _<_}
-use lib.Dec.{T, ltb}
 use lib.IntN.{ℤ}
 use lib.ListN.{length}
-use lib.Ieee.{Float, nan, inf, fin, binary64, ofBits, lt, le}
-use lib.Ieee.Scale.{finite}
+use lib.Ieee.{Float, binary64, ofBits}
 use borrow.Author.Tests.{lt-ltb, le-ltb}
-use Rattle.laws.specs.Branches.{or-false}
-use Rattle.laws.specs.FloatOrder.{not-lt→le}
-use Rattle.numbers.specs.Numbers.{isFinite}
 use Rattle.signal.specs.declared.Reading.{Reading as Shown}
 use Rattle.signal.specs.Signal.{Read, viewOf, readOf}
 use Rattle.resampler.specs.declared.dimensions.Dimensions.{Dimensions}
 use Rattle.resampler.specs.Dimensions.{sizedOf}
 use Rattle.resampler.specs.Design.{writtenOf}
-use Rattle.resampler.specs.Admitted.{AdmittedRate, lowestRate, highestRate}
 use Rattle.front.specs.declared.FrontPlace.{FrontPlace}
-use Rattle.receiver_state.specs.declared.refusal.Verdict.the-variants.{Accepted, Rate, Offset, Table, State}
+use Rattle.checks.specs.declared.refusal.Verdict.the-variants.{Accepted, Rate, Offset, Table, State}
 use Rattle.receiver_state.specs.declared.state.Receiver.{Receiver}
 use Rattle.receiver.specs.declared.setup.Setup.{Setup}
 use Rattle.receiver_state.specs.State.{freshFront, freshReceiver}
-use Rattle.receiver_state.specs.Admitted.{admittedOf}
-use Rattle.receiver_state.specs.Fits.{fits-from}
-use Rattle.receiver.specs.Setup.{rateRefused, offsetRefused, setupNow, refusedReceiver, setupOf}
+use Rattle.receiver.specs.Admitted.{admittedOf}
+use Rattle.checks.specs.Fits.{fits-from}
+use Rattle.checks.specs.Checks.{rateRefused, offsetRefused}
+use Rattle.receiver.specs.Setup.{setupNow, refusedReceiver, setupOf}
 use Rattle.receiver.specs.Reading.{pointsNow, readingOf}
 
 -- ---- setup
-is-not : (b : Bool) → b ≡ false → T (not b)
-is-not true h = absurd (true≢false h)
-is-not false h = tt
-
-finite-of : (x : Float) → not (isFinite x) ≡ false → T (finite x)
-unfolding isFinite
-finite-of nan h = absurd (true≢false h)
-finite-of (inf s) h = absurd (true≢false h)
-finite-of (fin s m e) h = tt
-
--- a rate that is not refused is one that the resampler takes
-pub rate-admitted : (rate : Float) (b : Bool) → b ≡ rateRefused rate → b ≡ false → AdmittedRate rate
-unfolding rateRefused ofBits
-rate-admitted rate b e f =
-    let o = or-false (not (isFinite rate)) (lt rate lowestRate || lt highestRate rate) (sym e ∙ f) in
-    let p = or-false (lt rate lowestRate) (lt highestRate rate) (o .1) in
-    let F = finite-of rate (o .0) in
-    record {
-      range = record {
-        lower = not-lt→le rate lowestRate F tt (is-not (lt rate lowestRate) (p .0));
-        upper = not-lt→le highestRate rate tt F (is-not (lt highestRate rate) (p .1));
-      };
-    }
-
 module _ (rate offset : Float) (profile : ℤ) (table : List Float) where
   pub setup-rate : (b : Bool) (s : Setup) → b ≡ rateRefused rate → b ≡ true → s ≡ refusedReceiver Rate → setupNow s table ≡ setupOf rate offset profile table
   unfolding setupOf

@@ -1,26 +1,21 @@
 // A block of samples through the receiver.
 ghost use mathlib.Core.Path.{_≡_};
-ghost use Prim.Native.Nat.{_≤_, _^_};
+ghost use Prim.Native.Nat.{_≤_};
 ghost use lib.ListN.{length};
-ghost use Rattle.receiver.specs.Block.{countRefused, roomRefused, refusedBy, judgedNow, laterOf, statedOf, outcomeNow, acceptedOf, refusedBlock, blockOf};
-ghost use Rattle.receiver.specs.BlockLaws.{ReadyBlock};
-ghost use Rattle.receiver_state.specs.Admitted.{admittedOf};
-ghost use Rattle.receiver_state.specs.Refusal.{numberOf};
+ghost use Rattle.receiver.specs.Block.{outcomeNow, refusedBlock, blockOf};
+ghost use Rattle.receiver.specs.Admitted.{admittedOf};
+ghost use Rattle.checks.specs.Refusal.{numberOf};
 ghost use mathlib.Core.Bool.{true};
-use chain::ChainPlace;
-use front::FrontPlace;
+use checks::block::judged;
+use checks::refusal::Verdict;
+use checks::refusal::is_accepted;
 use oscillator::is_conjugated;
-use receiver_state::admitted::LIMIT;
-use receiver_state::admitted::is_admitted;
-use receiver_state::refusal::Verdict;
-use receiver_state::refusal::is_accepted;
 use receiver_state::state::Receiver;
 use receiver_state::state::Snapshot;
 use receiver_state::state::snapshot_of;
 use receiver_state::state::zero_snapshot;
-use samples::level::measured;
-use samples::run::Running;
-use samples::run::run;
+use run::Running;
+use run::run;
 
 // How many dibits were written, and how many samples have a part above 1 in size.
 pub struct Block {
@@ -29,91 +24,6 @@ pub struct Block {
     pub overload: u32,
     pub snapshot: Snapshot,
     pub receiver: Receiver,
-}
-
-// Overload: 0 where the block is refused.
-pub struct Checked {
-    pub verdict: Verdict,
-    pub overload: u32,
-}
-
-fn count_is_refused(total: u64, floats: usize) -> bool
-    requires { ⌜ total ≤ 2 ^ 52 ⌝ }
-    ensures { λ b. ⌜ b ≡ countRefused total floats ⌝ }
-{
-    let n = floats / 2;
-    if n > 65536 {
-        return true;
-    }
-    (floats % 2 == 1) | (total + (n as u64) > LIMIT)
-}
-
-fn room_is_refused(n: usize, dibits: usize, reliabilities: usize) -> bool
-    requires { ⌜ n ≤ 65536 ⌝ }
-    ensures { λ b. ⌜ b ≡ roomRefused n dibits reliabilities ⌝ }
-{
-    (dibits < 2 * n + 4) | (reliabilities < 4 * n + 8)
-}
-
-fn refused_by(verdict: Verdict) -> Checked
-    ensures { λ r. ⌜ r ≡ refusedBy verdict ⌝ }
-{
-    Checked {
-        verdict,
-        overload: 0,
-    }
-}
-
-// Checks 3, 4, 6 and 5, of an admitted state.
-fn checked_block(
-    total: u64,
-    arm: usize,
-    samples: &[f32],
-    table: usize,
-    dibits: usize,
-    reliabilities: usize,
-) -> Checked
-    requires { ⌜ total ≤ 2 ^ 52 ⌝ }
-    requires { ⌜ arm ≤ 576 ⌝ }
-    ensures { λ c. ⌜ judgedNow c ≡ laterOf total arm (now (samples .entry)) table dibits reliabilities ⌝ }
-{
-    if table < 32 * arm {
-        return refused_by(Verdict::Table);
-    }
-    if count_is_refused(total, samples.len()) {
-        return refused_by(Verdict::Count);
-    }
-    if room_is_refused(samples.len() / 2, dibits, reliabilities) {
-        return refused_by(Verdict::Room);
-    }
-    let l = measured(samples);
-    if l.finite {
-        return Checked {
-            verdict: Verdict::Accepted,
-            overload: l.overload,
-        };
-    }
-    refused_by(Verdict::Sample)
-}
-
-// Check 7 first.
-fn judged(
-    total: u64,
-    front: FrontPlace,
-    chain: ChainPlace,
-    parents: &[u8; 2048],
-    samples: &[f32],
-    table: usize,
-    dibits: usize,
-    reliabilities: usize,
-) -> Checked
-    ensures { λ c. ⌜ judgedNow c ≡ statedOf total front chain (now (parents .entry)) (now (samples .entry)) table dibits reliabilities ⌝ }
-{
-    if is_admitted(total, front, chain, parents) {
-        let resampler = front.resampler;
-        return checked_block(total, resampler.arm, samples, table, dibits, reliabilities);
-    }
-    refused_by(Verdict::State)
 }
 
 fn refused(verdict: Verdict, r: Receiver) -> Block

@@ -1,8 +1,8 @@
 // The constellation: the last points, oldest first, and their error.
 ghost use mathlib.Core.Path.{_≡_};
 ghost use Rattle.receiver.specs.Reading.{pointsNow, readingOf};
-use receiver_state::admitted::is_admitted;
-use receiver_state::refusal::Verdict;
+use checks::admitted::is_admitted;
+use checks::refusal::Verdict;
 use receiver_state::state::Receiver;
 
 pub struct Points {

@@ -1,11 +1,11 @@
 // A fresh receiver for a rate and an offset, or a refusal.
 ghost use mathlib.Core.Path.{_≡_};
 ghost use Rattle.receiver_state.specs.State.{freshFront};
-ghost use Rattle.receiver.specs.Setup.{rateRefused, offsetRefused, refusedReceiver, SetUp, setupNow, setupOf};
+ghost use Rattle.receiver.specs.Setup.{refusedReceiver, setupNow, setupOf};
+use checks::refusal::Verdict;
+use checks::setup::offset_is_refused;
+use checks::setup::rate_is_refused;
 use front::FrontPlace;
-use numbers::compare::abs;
-use numbers::compare::is_finite;
-use receiver_state::refusal::Verdict;
 use receiver_state::state::Receiver;
 use resampler::dimensions::Dimensions;
 use resampler::dimensions::sized;
@@ -13,18 +13,6 @@ use resampler::dimensions::sized;
 pub struct Setup {
     pub verdict: Verdict,
     pub receiver: Receiver,
-}
-
-fn rate_is_refused(rate: f64) -> bool
-    ensures { λ b. ⌜ b ≡ rateRefused rate ⌝ }
-{
-    !is_finite(rate) | ((rate < 9600.0) | (rate > 20000000.0))
-}
-
-fn offset_is_refused(rate: f64, offset: f64) -> bool
-    ensures { λ b. ⌜ b ≡ offsetRefused rate offset ⌝ }
-{
-    !is_finite(offset) | (abs(offset) + 4200.0 >= rate / 2.0)
 }
 
 fn front_at(rate: f64, offset: f64, d: Dimensions) -> FrontPlace

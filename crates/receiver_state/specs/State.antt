@@ -4,7 +4,8 @@ use mathlib.Core.Bool.{Bool, false, cond}
 use mathlib.Core.List.{List}
 use lib.IntN.{ℤ, pos}
 use lib.ListN.{replicate}
-use lib.Ieee.{Float, binary32, binary64, ofBits, mul, div}
+use lib.Ieee.{Float, binary64, ofBits, mul, div}
+use Rattle.numbers.specs.Constants.{zero32, fullTurn, zero64}
 use Rattle.complex.specs.declared.Observation.the-variants.{Absent}
 use Rattle.signal.specs.Signal as signal
 use Rattle.peak.specs.Peak as peak
@@ -15,21 +16,15 @@ use Rattle.resampler.specs.Dimensions as resampler
 use Rattle.equalizer.specs.Equalizer as equalizer
 use Rattle.sequence.specs.Sequence as sequence
 use Rattle.chain.specs.Chain as chain
-use Rattle.sequence.specs.declared.soft.Soft.the-variants.{Unrecorded}
-use Rattle.sequence.specs.declared.soft.Records.{Records}
-use Rattle.sequence.specs.declared.walk.Previous.the-variants.{Unknown}
+use Rattle.answers.specs.declared.soft.Soft.the-variants.{Unrecorded}
+use Rattle.answers.specs.declared.soft.Records.{Records}
+use Rattle.answers.specs.declared.walk.Previous.the-variants.{Unknown}
 use Rattle.front.specs.declared.FrontPlace.{FrontPlace}
 use Rattle.chain.specs.declared.ChainPlace.{ChainPlace}
 use Rattle.receiver_state.specs.declared.state.Receiver.{Receiver}
 use Rattle.receiver_state.specs.declared.state.Snapshot.{Snapshot}
 
 -- ---- every number zero, every flag false, every option absent
-
-abbrev pub zero64 : Float
-zero64 = ofBits binary64 0
-
-abbrev pub zero32 : Float
-zero32 = ofBits binary32 0
 
 abbrev pub zeroes : ℕ → List Float
 zeroes n = replicate n zero32
@@ -112,9 +107,13 @@ freshReceiver front profile = record {
 abbrev pub zeroSnapshot : Snapshot
 zeroSnapshot = record { symbols = 0; «locked_symbols» = 0; «carrier_error» = zero64; «frequency_offset_hz» = zero64; «carrier_locked» = 0; reserved = 0 }
 
--- 4,800 symbols a second turn radians a symbol into hertz
+-- the symbols of a second
+abbrev pub symbolRate : Float
+symbolRate = ofBits binary64 0x40b2_c000_0000_0000  -- 4800
+
+-- radians a symbol, in hertz
 unfoldable pub hertzOf : Float → Float
-hertzOf frequency = div binary64 (mul binary64 frequency (ofBits binary64 0x40b2_c000_0000_0000)) (ofBits binary64 0x4019_21fb_5444_2d18)
+hertzOf frequency = div binary64 (mul binary64 frequency symbolRate) fullTurn
 
 abbrev pub flagOf : Bool → ℕ
 flagOf b = cond b 1 0

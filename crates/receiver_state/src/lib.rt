@@ -1,6 +1,3 @@
-// What a call is handed and what it answers: the receiver's whole state, which states are admitted, and
-// the refusals by their numbers.
+// The receiver's whole state, and the lock report that is read off it.
 
-pub mod admitted;
-pub mod refusal;
 pub mod state;

@@ -1,21 +1,29 @@
 // The whole state: small places by value, and the planes that a block lends to its steps.
 ghost use mathlib.Core.Path.{_≡_};
 ghost use Rattle.receiver_state.specs.State.{freshReceiver, zeroFront, zeroChain, zeroReceiver, zeroSnapshot, flagOf, snapshotOf};
+use answers::PARENTS;
+use answers::STEPS;
+use answers::soft::Records;
+use answers::soft::Slot;
+use answers::soft::Soft;
+use answers::walk::Previous;
 use carrier::CarrierPlace;
 use carrier::Loop;
 use chain::ChainPlace;
+use channels::CHANNELS;
+use channels::STATES;
 use clock::ClockPlace;
 use complex::Observation;
+use equalizer::WEIGHTS;
+use filter::RING;
 use front::FrontPlace;
+use numbers::TURN;
 use oscillator::Oscillator;
-use peak::KeeperPlace;
+use peak::VALUES;
+use resampler::pass::PLACES;
 use resampler::pass::Resampler;
-use sequence::soft::Records;
-use sequence::soft::Slot;
-use sequence::soft::Soft;
 use sequence::step::DetectorPlace;
-use sequence::walk::Previous;
-use signal::ViewPlace;
+use signal::POINTS;
 
 // Total is how many samples were taken. The planes: the resampler's ring, the peak keeper's, the
 // clock's, the equalizer's weights, the detector's channels, costs and parents, the view's ring.
@@ -24,20 +32,20 @@ pub struct Receiver {
     pub front: FrontPlace,
     pub chain: ChainPlace,
     pub records: Records,
-    pub ring_real: [f32; 592],
-    pub ring_imaginary: [f32; 592],
-    pub keeper_real: [f32; 64],
-    pub keeper_imaginary: [f32; 64],
-    pub clock_real: [f32; 256],
-    pub clock_imaginary: [f32; 256],
-    pub weight_real: [f32; 21],
-    pub weight_imaginary: [f32; 21],
-    pub channel_real: [f32; 256],
-    pub channel_imaginary: [f32; 256],
-    pub costs: [f32; 64],
-    pub parents: [u8; 2048],
-    pub view_real: [f32; 1024],
-    pub view_imaginary: [f32; 1024],
+    pub ring_real: [f32; PLACES],
+    pub ring_imaginary: [f32; PLACES],
+    pub keeper_real: [f32; VALUES],
+    pub keeper_imaginary: [f32; VALUES],
+    pub clock_real: [f32; RING],
+    pub clock_imaginary: [f32; RING],
+    pub weight_real: [f32; WEIGHTS],
+    pub weight_imaginary: [f32; WEIGHTS],
+    pub channel_real: [f32; CHANNELS],
+    pub channel_imaginary: [f32; CHANNELS],
+    pub costs: [f32; STATES],
+    pub parents: [u8; PARENTS],
+    pub view_real: [f32; POINTS],
+    pub view_imaginary: [f32; POINTS],
 }
 
 // Dibits delivered since setup and those of them under lock, the carrier's smoothed error, its
@@ -123,21 +131,23 @@ pub fn zero() -> Receiver
         total: 0,
         front,
         chain,
-        records: Records { slots: [slot; 32] },
-        ring_real: [0.0; 592],
-        ring_imaginary: [0.0; 592],
-        keeper_real: [0.0; 64],
-        keeper_imaginary: [0.0; 64],
-        clock_real: [0.0; 256],
-        clock_imaginary: [0.0; 256],
-        weight_real: [0.0; 21],
-        weight_imaginary: [0.0; 21],
-        channel_real: [0.0; 256],
-        channel_imaginary: [0.0; 256],
-        costs: [0.0; 64],
-        parents: [0; 2048],
-        view_real: [0.0; 1024],
-        view_imaginary: [0.0; 1024],
+        records: Records {
+            slots: [slot; STEPS],
+        },
+        ring_real: [0.0; PLACES],
+        ring_imaginary: [0.0; PLACES],
+        keeper_real: [0.0; VALUES],
+        keeper_imaginary: [0.0; VALUES],
+        clock_real: [0.0; RING],
+        clock_imaginary: [0.0; RING],
+        weight_real: [0.0; WEIGHTS],
+        weight_imaginary: [0.0; WEIGHTS],
+        channel_real: [0.0; CHANNELS],
+        channel_imaginary: [0.0; CHANNELS],
+        costs: [0.0; STATES],
+        parents: [0; PARENTS],
+        view_real: [0.0; POINTS],
+        view_imaginary: [0.0; POINTS],
     }
 }
 
@@ -153,20 +163,20 @@ pub fn fresh(front: FrontPlace, profile: i32) -> Receiver
         front,
         chain,
         records,
-        ring_real: [0.0; 592],
-        ring_imaginary: [0.0; 592],
-        keeper_real: [0.0; 64],
-        keeper_imaginary: [0.0; 64],
-        clock_real: [0.0; 256],
-        clock_imaginary: [0.0; 256],
+        ring_real: [0.0; PLACES],
+        ring_imaginary: [0.0; PLACES],
+        keeper_real: [0.0; VALUES],
+        keeper_imaginary: [0.0; VALUES],
+        clock_real: [0.0; RING],
+        clock_imaginary: [0.0; RING],
         weight_real: weights,
-        weight_imaginary: [0.0; 21],
+        weight_imaginary: [0.0; WEIGHTS],
         channel_real: channels,
-        channel_imaginary: [0.0; 256],
-        costs: [0.0; 64],
-        parents: [0; 2048],
-        view_real: [0.0; 1024],
-        view_imaginary: [0.0; 1024],
+        channel_imaginary: [0.0; CHANNELS],
+        costs: [0.0; STATES],
+        parents: [0; PARENTS],
+        view_real: [0.0; POINTS],
+        view_imaginary: [0.0; POINTS],
     }
 }
 
@@ -188,9 +198,6 @@ fn flag(b: bool) -> u32
 {
     if b { 1 } else { 0 }
 }
-
-// 2 pi.
-const TURN: f64 = 6.283185307179586;
 
 // 4,800 symbols a second turn radians a symbol into hertz.
 pub fn snapshot_of(chain: ChainPlace) -> Snapshot

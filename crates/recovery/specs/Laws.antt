@@ -1,5 +1,5 @@
 -- The stage's definition met from what its parts answer, one law for each way out of a function, and the ranges that each step keeps. Assumes nothing.
-use mathlib.Core.Path.{_≡_, refl, sym, ap, ap₂, _∙_, subst}
+use mathlib.Core.Path.{_≡_, sym, ap, ap₂, _∙_, subst}
 use Prim.Native.Nat.{ℕ, zero, suc, _+_, _≤_, _<_}
 use native.Mathlib.Omega.{arith}
 use mathlib.Core.Bool.{Bool, true, false, _&&_}
@@ -10,9 +10,9 @@ use lib.Ieee.{Float, ofBits, neg, lt}
 use lib.Ieee.Bits.{is-true}
 use lib.Ieee.Fits.{and-l, and-r}
 use Rattle.laws.specs.Turns.{turns, turns-start, turns-step}
+use Rattle.numbers.specs.Constants.{one32, minusOne32}
 use Rattle.complex.specs.declared.Complex32.{Complex32}
 use Rattle.peak.specs.declared.KeeperPlace.{KeeperPlace}
-use Rattle.peak.specs.declared.Kept.{Kept}
 use Rattle.peak.specs.declared.Level.{Level}
 use Rattle.peak.specs.declared.Level.the-variants.{Filling, At}
 use Rattle.peak.specs.Peak as Peak
@@ -22,23 +22,23 @@ use Rattle.clock.specs.declared.ClockPlace.{ClockPlace}
 use Rattle.clock.specs.declared.Due.{Due}
 use Rattle.clock.specs.declared.Due.the-variants.{NoSymbol, Symbol}
 use Rattle.clock.specs.Clock as Clock
-use Rattle.clock.specs.Ranges.{minusOne, one32, ErrorFits, After}
+use Rattle.clock.specs.Ranges.{ErrorFits, After}
 use Rattle.clock.specs.Laws.{after-of, stepped-place, update-kept}
 use Rattle.clock.specs.AdmittedLaws as ClockLaws
 use Rattle.taps.specs.declared.Tables.{Tables}
 use Rattle.taps.specs.Taps.{bothTables}
 use Rattle.equalizer.specs.Equalizer as Equalizer
 use Rattle.equalizer.specs.Laws.{timing-not-below, timing-not-above}
-use Rattle.tracker.specs.Tracker.{pointAt}
+use Rattle.complex.specs.Planes.{pointAt}
 use Rattle.recovery.specs.declared.RecoveryPlace.{RecoveryPlace}
 use Rattle.recovery.specs.declared.step.Found.{Found}
 use Rattle.recovery.specs.declared.step.Found.the-variants.{Nothing, Here}
-use Rattle.recovery.specs.Recovery.{admittedOf, RecoveryState, Step, withKeeper, withClock, symbolOf, clockedWith, clockRun, levelOf, steppedWith, steppedOf}
+use Rattle.recovery.specs.Recovery.{admittedOf, RecoveryState, Step, withKeeper, withClock, symbolOf, clockedWith, clockStep, levelOf, steppedWith, steppedOf}
 use Rattle.recovery.specs.Rows.{Symbols, Lent, putOf, linkedWith, linkedOf, rowTurn, rowOf, recoveredOf}
 use Rattle.recovery.specs.Ranges.{Admitted, KeeperRanged, Ranged, Roomy, Asks}
 
 -- ---- a value's three ways
-module _ (taps derivatives : List Float) (s : RecoveryState) (z : Complex32) (k : Peak.Run) (is-kept : k ≡ Peak.keptOf (s .place .keeper) z (s .keeper)) where
+module _ (taps derivatives : List Float) (s : RecoveryState) (z : Complex32) (k : Peak.KeeperStep) (is-kept : k ≡ Peak.keptOf (s .place .keeper) z (s .keeper)) where
   stepped-is : (r : Step) → r ≡ steppedWith taps derivatives s k → r ≡ steppedOf taps derivatives s z
   unfolding steppedOf
   stepped-is r e = e ∙ ap (steppedWith taps derivatives s) is-kept
@@ -50,11 +50,11 @@ module _ (taps derivatives : List Float) (s : RecoveryState) (z : Complex32) (k 
   unfolding levelOf
   stepped-filling l = stepped-is _ (rw l)
 
-  module _ (sample : Complex32) (reliable : Bool) (is-level : k .kept .level ≡ At sample reliable) (r : Clock.Run)
-      (is-run : r ≡ clockRun taps derivatives (withKeeper s k) sample) where
+  module _ (sample : Complex32) (reliable : Bool) (is-level : k .kept .level ≡ At sample reliable) (r : Clock.ClockStep)
+      (is-run : r ≡ clockStep taps derivatives (withKeeper s k) sample) where
     clocked-is : (q : Step) → q ≡ clockedWith (withKeeper s k) r reliable → q ≡ steppedOf taps derivatives s z
     unfolding levelOf
-    clocked-is q e = stepped-is q (e ∙ ap (λ (r : Clock.Run). clockedWith (withKeeper s k) r reliable) is-run ∙ ap (λ (l : Level). levelOf taps derivatives l (withKeeper s k)) (sym is-level))
+    clocked-is q e = stepped-is q (e ∙ ap (λ (r : Clock.ClockStep). clockedWith (withKeeper s k) r reliable) is-run ∙ ap (λ (l : Level). levelOf taps derivatives l (withKeeper s k)) (sym is-level))
 
     pub stepped-waiting : r .stepped .due ≡ NoSymbol
         → _≡_ {A = Step}
@@ -107,9 +107,9 @@ error-fits : (w x dx : Equalizer.Row) (reliable : Bool) → ErrorFits (Equalizer
 unfolding Equalizer.equalizedOf ofBits neg
 error-fits w x dx reliable =
     let t = Equalizer.timingErrorOf (Equalizer.tapSumsOf w x dx) reliable in
-    let low : lt t minusOne ≡ false = timing-not-below (Equalizer.tapSumsOf w x dx) reliable in
+    let low : lt t minusOne32 ≡ false = timing-not-below (Equalizer.tapSumsOf w x dx) reliable in
     let high : lt one32 t ≡ false = timing-not-above (Equalizer.tapSumsOf w x dx) reliable in
-    ClockLaws.within-from t minusOne one32 tt (rw (low, high) tt)
+    ClockLaws.within-from t minusOne32 one32 tt (rw (low, high) tt)
 
 symbol-ranged : (a : Due) (w : Windows) (s : RecoveryState) (reliable : Bool) → KeeperRanged (s .place .keeper) (s .keeper) → After a (s .place .clock) → Ranged (symbolOf a w s reliable .state)
 unfolding symbolOf
@@ -129,7 +129,7 @@ module _ (taps derivatives : List Float) where
   unfolding levelOf
   level-ranged Filling s h = h
   level-ranged (At z reliable) s h =
-      let r = clockRun taps derivatives s z in
+      let r = clockStep taps derivatives s z in
       symbol-ranged (r .stepped .due) (r .windows) (withClock s r) reliable (h .keeper)
       (after-of (s .place .clock) (r .stepped) (h .clock) (stepped-place taps derivatives (s .place .clock) z (s .clock .real) (s .clock .imaginary) _))
 

@@ -2,7 +2,8 @@
 use mathlib.Core.Bool.{Bool, _&&_}
 use mathlib.Core.List.{List}
 use lib.ListN.{replicate}
-use lib.Ieee.{Float, binary32, ofBits}
+use lib.Ieee.{Float}
+use Rattle.numbers.specs.Constants.{zero32}
 use Rattle.complex.specs.declared.Complex32.{Complex32}
 use Rattle.peak.specs.declared.Level.{Level}
 use Rattle.peak.specs.declared.Level.the-variants.{Filling, At}
@@ -12,7 +13,7 @@ use Rattle.clock.specs.declared.Due.{Due}
 use Rattle.clock.specs.declared.Due.the-variants.{NoSymbol, Symbol}
 use Rattle.clock.specs.Clock as Clock
 use Rattle.equalizer.specs.Equalizer as Equalizer
-use Rattle.tracker.specs.Tracker.{Planes}
+use Rattle.complex.specs.Planes.{Planes}
 use Rattle.recovery.specs.declared.RecoveryPlace.{RecoveryPlace}
 use Rattle.recovery.specs.declared.step.Found.{Found}
 use Rattle.recovery.specs.declared.step.Found.the-variants.{Nothing, Here}
@@ -41,10 +42,10 @@ pub record Step : Type 0 where
   pub state : RecoveryState
   pub found : Found
 
-abbrev pub withKeeper : RecoveryState → Peak.Run → RecoveryState
+abbrev pub withKeeper : RecoveryState → Peak.KeeperStep → RecoveryState
 withKeeper s k = record { place = record { keeper = k .kept .place; clock = s .place .clock }; keeper = k .ring; clock = s .clock; weights = s .weights }
 
-abbrev pub withClock : RecoveryState → Clock.Run → RecoveryState
+abbrev pub withClock : RecoveryState → Clock.ClockStep → RecoveryState
 withClock s r = record {
   place = record { keeper = s .place .keeper; clock = r .stepped .place };
   keeper = s .keeper;
@@ -76,22 +77,22 @@ symbolOf (Symbol arm from) w s reliable = withSymbol s (equalizedWith s w reliab
 -- the windows before a symbol is found; only a symbol's are used
 abbrev pub blank : Windows
 blank =
-    let zeros = replicate 21 (ofBits binary32 0x00000000) in
+    let zeros = replicate 21 zero32 in
     record { real = zeros; imaginary = zeros; derivativeReal = zeros; derivativeImaginary = zeros }
 
-abbrev pub clockedWith : RecoveryState → Clock.Run → Bool → Step
+abbrev pub clockedWith : RecoveryState → Clock.ClockStep → Bool → Step
 clockedWith s r reliable = symbolOf (r .stepped .due) (r .windows) (withClock s r) reliable
 
 module _ (taps derivatives : List Float) where
-  abbrev pub clockRun : RecoveryState → Complex32 → Clock.Run
-  clockRun s z = Clock.steppedOf taps derivatives (s .place .clock) z (s .clock .real) (s .clock .imaginary) blank
+  abbrev pub clockStep : RecoveryState → Complex32 → Clock.ClockStep
+  clockStep s z = Clock.steppedOf taps derivatives (s .place .clock) z (s .clock .real) (s .clock .imaginary) blank
 
   -- a keeper that is filling ends it too
   unfoldable pub levelOf : Level → RecoveryState → Step
   levelOf Filling s = record { state = s; found = Nothing }
-  levelOf (At z reliable) s = clockedWith s (clockRun s z) reliable
+  levelOf (At z reliable) s = clockedWith s (clockStep s z) reliable
 
-  abbrev pub steppedWith : RecoveryState → Peak.Run → Step
+  abbrev pub steppedWith : RecoveryState → Peak.KeeperStep → Step
   steppedWith s k = levelOf (k .kept .level) (withKeeper s k)
 
   unfoldable pub steppedOf : RecoveryState → Complex32 → Step

@@ -6,6 +6,7 @@ ghost use lib.ListN.{length};
 ghost use Rattle.chain.specs.Ranges.{mostSymbols, Ranged};
 ghost use Rattle.replay_chain.specs.Sound.{Sound};
 ghost use Rattle.replay_chain.specs.Lends.{given, left};
+use answers::soft::Records;
 use carrier::CarrierPlace;
 use carrier::Loop;
 use chain::ChainPlace;
@@ -13,6 +14,7 @@ use chain::Chained;
 use clock::ClockPlace;
 use numbers::bits::float;
 use numbers::bits::float32;
+use patterns::least;
 use peak::KeeperPlace;
 use replay::fill;
 use replay::mixed;
@@ -31,7 +33,6 @@ use replay_detector::mixed_place;
 use replay_detector::mixed_point;
 use replay_detector::mixed_records;
 use replay_detector::started;
-use sequence::soft::Records;
 use signal::ViewPlace;
 
 // The state's own words, and how many rows follow.
@@ -95,12 +96,6 @@ fn profile(places: u64) -> i32 {
     } else {
         0
     }
-}
-
-fn lesser(a: u64, b: u64) -> u64
-    ensures { λ r. ⌜ r ≤ b ⌝ }
-{
-    if a < b { a } else { b }
 }
 
 fn read_word() -> u64 {
@@ -301,8 +296,8 @@ fn run(
     let mut left = rows;
     while left > 0 {
         let head = read_word();
-        let made = lesser(low(head), 256) as usize;
-        let before = lesser(high(head), 8) as usize;
+        let made = least(low(head), 256) as usize;
+        let before = least(high(head), 8) as usize;
         read_row(made, &mut row_real, &mut row_imaginary);
         if p.symbols > 9007199254740000 {
             break;
@@ -368,7 +363,7 @@ fn decoded(head: &[u8]) -> Request
         count: (high(view) % 1025) as usize,
         profile: profile(places),
         symbols,
-        locked: lesser(word(head, 64), symbols),
+        locked: least(word(head, 64), symbols),
     }
 }
 

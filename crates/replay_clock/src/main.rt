@@ -1,7 +1,5 @@
 // Plays a list of samples, updates and handed-in places from standard input through the clock, and
 // writes a line for each: the digest of the place after it and, for a sample, of its windows.
-ghost use Prim.Native.Nat.{_≤_};
-ghost use lib.ListN.{length};
 use clock::ClockPlace;
 use clock::Due;
 use complex::Complex32;

@@ -3,7 +3,14 @@
 ghost use mathlib.Core.Path.{_≡_};
 ghost use Prim.Native.Nat.{_<_, _≤_};
 ghost use lib.ListN.{length};
-ghost use Rattle.sequence.specs.Walk.{Table, Earlier};
+ghost use Rattle.answers.specs.Walk.{Table, Earlier};
+use answers::PARENTS;
+use answers::STEPS;
+use answers::soft::Records;
+use answers::soft::Slot;
+use answers::soft::Soft;
+use answers::walk::Answer;
+use answers::walk::Previous;
 use complex::Complex32;
 use complex::Observation;
 use replay::mixed;
@@ -11,15 +18,8 @@ use replay::mixed_flag;
 use replay::mixed_float32;
 use replay::next;
 use replay::part;
-use sequence::PARENTS;
-use sequence::STEPS;
-use sequence::soft::Records;
-use sequence::soft::Slot;
-use sequence::soft::Soft;
 use sequence::step::Detected;
 use sequence::step::DetectorPlace;
-use sequence::walk::Answer;
-use sequence::walk::Previous;
 
 // The kinds of floats and of costs, place, fill and previous symbol (0, or 1 and the symbol).
 pub struct Start {

@@ -4,7 +4,6 @@ ghost use Prim.Native.Nat.{_≤_};
 use numbers::bits;
 use numbers::compare;
 use numbers::narrow;
-use numbers::whole;
 use replay::mixed;
 use replay::mixed_flag;
 use replay::mixed_float;

@@ -1,7 +1,6 @@
 // Plays runs of samples from standard input through the mixer, and writes a line for each: the digest
 // of every mixed sample and of the oscillator after it. The samples come from the run's seed.
-ghost use Prim.Native.Nat.{_<_, _≤_};
-ghost use lib.ListN.{length};
+ghost use Prim.Native.Nat.{_<_};
 use complex::Complex32;
 use numbers::bits::float;
 use numbers::bits::float32;

@@ -2,10 +2,10 @@
 // it out: each is its length in an 8-byte word, then its bytes. A line with its number and length stands
 // before what the program writes for it. The steps are taken as `receive` takes them: over as many bytes
 // as the stage waits for, fewer at the recording's end.
-ghost use mathlib.Core.Path.{_≡_};
-ghost use Prim.Native.Nat.{_+_, _≤_, _<_, min};
+ghost use Prim.Native.Nat.{_+_, _≤_, _<_};
 ghost use lib.ListN.{length};
 ghost use Rattle.program.specs.Program.{wantedOf, leftOf, Moves};
+use patterns::least_usize;
 use program::step::Program;
 use program::step::started;
 use program::step::stepped;
@@ -15,12 +15,6 @@ use replay::word;
 const IN: i32 = 0;
 
 const OUT: i32 = 1;
-
-fn least(a: usize, b: usize) -> usize
-    ensures { λ r. ⌜ r ≡ min a b ⌝ }
-{
-    if a < b { a } else { b }
-}
 
 // A step over the bytes that came, and its text.
 fn turned(p: Program, bytes: &[u8], table: &mut [f32]) -> Program
@@ -42,7 +36,7 @@ fn play(recording: &[u8]) {
     let mut stage = p.stage;
     let mut at = 0;
     while wanted(stage) > 0 {
-        let end = at + least(wanted(stage), recording.len() - at);
+        let end = at + least_usize(wanted(stage), recording.len() - at);
         let q = turned(p, &recording[at..end], &mut table);
         stage = q.stage;
         p = q;

@@ -1,9 +1,9 @@
 // The entries of a script, each on the state and the table that stand on the desk.
 ghost use Prim.Native.Nat.{_<_, _≤_};
 ghost use lib.ListN.{length};
+use checks::refusal::number;
 use numbers::bits::float;
 use numbers::bits::float32;
-use receiver_state::refusal::number;
 use receiver_state::state::Snapshot;
 use replay::mark;
 use replay::mixed;

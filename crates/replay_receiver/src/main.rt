@@ -3,8 +3,6 @@
 // lent is filled with a pattern before each call, and all of it goes into the answer's digest.
 mod desk;
 
-use desk::Entry;
-
 // Whether an entry was read, and answered.
 fn answered(
     words: &mut [u64; 6757],

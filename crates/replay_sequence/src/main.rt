@@ -4,6 +4,10 @@
 ghost use Prim.Native.Nat.{_<_, _≤_};
 ghost use lib.ListN.{length};
 ghost use Rattle.lms_detector.specs.Ranges.{Ranged};
+use answers::PARENTS;
+use answers::soft::Records;
+use channels::CHANNELS;
+use channels::STATES;
 use complex::Complex32;
 use numbers::bits::float32;
 use replay::fill;
@@ -22,10 +26,6 @@ use replay_detector::mixed_records;
 use replay_detector::shown;
 use replay_detector::started;
 use replay_detector::stored;
-use sequence::CHANNELS;
-use sequence::PARENTS;
-use sequence::STATES;
-use sequence::soft::Records;
 use sequence::step::Detected;
 use sequence::step::DetectorPlace;
 
@@ -89,7 +89,7 @@ fn run(
             p,
             input(word(&step, 0)),
             word(&step, 8) == 1,
-            sequence::soft::oldest(records, write),
+            answers::soft::oldest(records, write),
             &mut *real,
             &mut *imaginary,
             &mut *costs,

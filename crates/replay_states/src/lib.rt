@@ -2,6 +2,10 @@
 // complement for signed ones, an option as 1 and its values or zeros, planes of reals before planes
 // of imaginaries. Three words stay zero: an observation that the Rust keeps and never reads.
 ghost use Prim.Native.Nat.{_+_, _<_};
+use answers::soft::Records;
+use answers::soft::Slot;
+use answers::soft::Soft;
+use answers::walk::Previous;
 use carrier::CarrierPlace;
 use carrier::Loop;
 use chain::ChainPlace;
@@ -22,11 +26,7 @@ use oscillator::Oscillator;
 use peak::KeeperPlace;
 use receiver_state::state::Receiver;
 use resampler::pass::Resampler;
-use sequence::soft::Records;
-use sequence::soft::Slot;
-use sequence::soft::Soft;
 use sequence::step::DetectorPlace;
-use sequence::walk::Previous;
 use signal::ViewPlace;
 
 // ---- words to numbers

@@ -21,7 +21,8 @@ use Rattle.laws.specs.Places.{row-ends}
 use Rattle.laws.specs.Ring.{start, lt-or-ge, round-start, round-step}
 use Rattle.laws.specs.FloatOrder.{le→}
 use Rattle.laws.specs.FloatSums.{In, in-finite}
-use Rattle.numbers.specs.Numbers.{wholeOf, away, downward}
+use Rattle.laws.specs.Modulo.{modulo}
+use Rattle.whole.specs.Whole.{wholeOf, away, downward}
 use Rattle.complex.specs.Complex.{zeroPair}
 use Rattle.complex.specs.declared.Complex32.{Complex32}
 use Rattle.resampler.specs.declared.pass.Resampler.{Resampler}
@@ -34,7 +35,7 @@ use Rattle.resampler.specs.Window.{window-at}
 use Rattle.resampler.specs.Latest.{due-now, window-start}
 use Rattle.resampler.specs.Admitted.{f0, far, back, Admitted, Dimensioned}
 use Rattle.resampler.specs.AdmittedLaws.{Passing, Going, going-start, going-turned, outcome, no-third, due-few, admitted-passing, pushed-dimensioned}
-use Rattle.resampler.specs.RustPass.{remEuclid, Spot, spotFrom, spotOf, offsetOf, Summing, tapped, summedOf, Loop, isBeyond, returns, loopTurn, loopOf, Processed, processedOf}
+use Rattle.resampler.specs.RustPass.{Spot, spotFrom, spotOf, offsetOf, Summing, tapped, summedOf, Loop, isBeyond, returns, loopTurn, loopOf, Processed, processedOf}
 
 -- ---- signed positions: nothing that the Rust casts to i64 is negative
 abbrev floored : Float → Float
@@ -84,15 +85,15 @@ minus-larger a zero h = absurd (omega arith)
 minus-larger a (suc b) h = rw (lt-ltb a (suc b) h)
 
 -- a remainder of a difference of up to one round
-round-back : (size a b : ℕ) → 0 < size → b ≤ a + size → remEuclid size (pos a -ℤ pos b) ≡ (a + size - b) % size
-unfolding remEuclid
+round-back : (size a b : ℕ) → 0 < size → b ≤ a + size → modulo size (pos a -ℤ pos b) ≡ (a + size - b) % size
+unfolding modulo
 round-back size a b z h =
     ⊎-elim
     (λ l.
     let s : b - suc a < size = omega arith in
-    ap (remEuclid size) (minus-larger a b l) ∙ ap (λ (k : ℕ). size - suc k) (mod-eq-of-lt s) ∙ (let e : size - suc (b - suc a) ≡ a + size - b = omega arith in e) ∙ sym (mod-eq-of-lt (let g : a + size - b < size = omega arith in g)))
+    ap (modulo size) (minus-larger a b l) ∙ ap (λ (k : ℕ). size - suc k) (mod-eq-of-lt s) ∙ (let e : size - suc (b - suc a) ≡ a + size - b = omega arith in e) ∙ sym (mod-eq-of-lt (let g : a + size - b < size = omega arith in g)))
     (λ l.
-    ap (remEuclid size) (minus-smaller a b l) ∙ sym (add-mod-left size (a - b)) ∙ ap (λ (k : ℕ). k % size) (let e : size + (a - b) ≡ a + size - b = omega arith in e))
+    ap (modulo size) (minus-smaller a b l) ∙ sym (add-mod-left size (a - b)) ∙ ap (λ (k : ℕ). k % size) (let e : size + (a - b) ≡ a + size - b = omega arith in e))
     (lt-or-ge a b)
 
 -- first + c, with c at least half
@@ -125,7 +126,7 @@ module _ (q : Resampler) (d : Dimensioned q) (table real imaginary : List Float)
   offset-is p e =
       let size = q .arm + 16 in
       let h = d .half-in in
-      ap (remEuclid size) (offset-sum (q .write) (p .position) (q .half) (q .index))
+      ap (modulo size) (offset-sum (q .write) (p .position) (q .half) (q .index))
       ∙ round-back size (q .write + p .position) (q .half + q .index) (omega arith) (omega arith)
       ∙ ap (λ (k : ℕ). k % size) (let g : q .write + p .position + size - (q .half + q .index) ≡ q .write + size - (q .index + q .half - p .position) = omega arith in g)
       ∙ window-start q (p .position) h e

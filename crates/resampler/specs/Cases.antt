@@ -3,7 +3,7 @@ use Prim.Native.Nat.{ℕ}
 use mathlib.Core.Path.{_≡_, refl}
 use mathlib.Core.List.{List, [], _∷_}
 use lib.Ieee.{Float, binary64, ofBits, ofInt, mul, div, toUnsigned}
-use Rattle.numbers.specs.Numbers.{wholeOf}
+use Rattle.whole.specs.Whole.{wholeOf}
 use Rattle.resampler.specs.Dimensions.{decimationOf, decimatedOf, armLengthOf}
 
 -- a rate, its d and its c

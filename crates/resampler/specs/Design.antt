@@ -7,17 +7,9 @@ use lib.ListN.{drop}
 use lib.Ieee.{Float, binary32, binary64, ofBits, ofInt, add, sub, mul, div, eq}
 use Rattle.laws.specs.Turns.{turns}
 use Rattle.laws.specs.Places.{upto}
+use Rattle.numbers.specs.Constants.{two64, fullTurn, zero64}
 use Rattle.numbers.specs.Numbers.{convert}
 use Rattle.routines.specs.Circle.{sineOf, cosineOf}
-
-abbrev pub zero64 : Float
-zero64 = ofBits binary64 0x0000_0000_0000_0000  -- 0
-
-abbrev pub two64 : Float
-two64 = ofBits binary64 0x4000_0000_0000_0000  -- 2
-
-abbrev pub twoPi : Float
-twoPi = ofBits binary64 0x4019_21fb_5444_2d18  -- 6.283185307179586
 
 -- the filter's cutoff in hertz
 abbrev pub cutoff : Float
@@ -39,7 +31,7 @@ windowSwing = ofBits binary64 0x3fdd_70a3_d70a_3d71  -- 0.46
 
 -- 2 pi 4200 / (32 rate): the cutoff in radians a tap, for values that come at the rate
 unfoldable pub omegaOf : Float → Float
-omegaOf rate = div binary64 (mul binary64 twoPi cutoff) (mul binary64 arms64 rate)
+omegaOf rate = div binary64 (mul binary64 fullTurn cutoff) (mul binary64 arms64 rate)
 
 -- the sine over its distance x from the middle; the limit in the middle itself
 unfoldable pub waveOf : Float → Float → Float
@@ -51,7 +43,7 @@ rawTapOf omega last i =
     let place = ofInt binary64 (pos i) in
     let end = ofInt binary64 (pos last) in
     let wave = waveOf omega (sub binary64 place (div binary64 end two64)) in
-    let window = sub binary64 windowMiddle (mul binary64 windowSwing (cosineOf (div binary64 (mul binary64 twoPi place) end))) in
+    let window = sub binary64 windowMiddle (mul binary64 windowSwing (cosineOf (div binary64 (mul binary64 fullTurn place) end))) in
     convert binary32 (mul binary64 wave window)
 
 -- the sum of the taps 0 to n - 1, in that order

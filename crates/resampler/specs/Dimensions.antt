@@ -2,7 +2,7 @@
 use Prim.Native.Nat.{ℕ, _/_, max}
 use lib.IntN.{pos}
 use lib.Ieee.{Float, binary64, ofBits, ofInt, toUnsigned, mul, div}
-use Rattle.numbers.specs.Numbers.{wholeOf, away}
+use Rattle.whole.specs.Whole.{wholeOf, away}
 use Rattle.resampler.specs.declared.dimensions.Dimensions.{Dimensions}
 use Rattle.resampler.specs.declared.pass.Resampler.{Resampler}
 

@@ -3,9 +3,10 @@ use Prim.Native.Nat.{ℕ, _+_, _-_, _*_, _/_, _%_}
 use mathlib.Core.List.{List}
 use lib.ListN.{getD, set}
 use lib.Ieee.{Float, nan, binary32, add, mul}
+use Rattle.numbers.specs.Constants.{zero64}
 use Rattle.laws.specs.Turns.{turns}
 use Rattle.complex.specs.declared.Complex32.{Complex32}
-use Rattle.resampler.specs.Design.{zero64, rawTapOf, tapSumTurn, tapSum, overSum}
+use Rattle.resampler.specs.Design.{rawTapOf, tapSumTurn, tapSum, overSum}
 
 -- ---- the table of taps
 

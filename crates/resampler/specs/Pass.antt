@@ -8,7 +8,7 @@ use lib.ListN.{getD, set, take, drop}
 use lib.Ieee.{Float, nan, binary32, binary64, ofBits, ofInt, toUnsigned, add, sub, mul, le}
 use Rattle.laws.specs.Turns.{turns, until}
 use Rattle.laws.specs.Ring.{latest}
-use Rattle.numbers.specs.Numbers.{wholeOf, away, downward}
+use Rattle.whole.specs.Whole.{wholeOf, away, downward}
 use Rattle.complex.specs.Complex.{zeroPair}
 use Rattle.complex.specs.declared.Complex32.{Complex32}
 use Rattle.resampler.specs.Design.{arms64}

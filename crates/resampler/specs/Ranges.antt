@@ -30,7 +30,8 @@ use Rattle.laws.specs.FloatValues.{round-least, round-most}
 use Rattle.laws.specs.FloatSums.{In, in-finite, in-wider}
 use Rattle.resampler.specs.declared.dimensions.Dimensions.{Dimensions}
 use Rattle.resampler.specs.Dimensions.{nearestOf, decimationOf, decimatedOf, armLengthOf, sizedOf, freshOf}
-use Rattle.numbers.specs.Numbers.{wholeOf, away, signOf, minOf}
+use Rattle.numbers.specs.Numbers.{signOf, minOf}
+use Rattle.whole.specs.Whole.{wholeOf, away}
 use Rattle.resampler.specs.Outputs.{no-minus}
 use Rattle.resampler.specs.Ticks.{nearest-at, minus-zero}
 use Rattle.resampler.specs.Scaled.{→lt}

@@ -1,15 +1,16 @@
 -- The Rust's pass in its own terms (its `process`, from the ring on): signed positions, an open loop that returns by its test, a place in the ring that is a remainder and comes round tap by tap, and
 -- the outputs in the order of its sink. Definitions only.
-use Prim.Native.Nat.{ℕ, suc, _+_, _-_, _%_}
+use Prim.Native.Nat.{ℕ, _+_, _-_, _%_}
 use mathlib.Core.Bool.{Bool, cond}
 use mathlib.Core.List.{List, [], _∷_, _++_, foldl}
 use lib.Dec.{eqb}
-use lib.IntN.{ℤ, pos, negsuc, _+ℤ_, _-ℤ_}
+use lib.IntN.{ℤ, pos, _+ℤ_, _-ℤ_}
 use lib.ListN.{length, getD, set}
 use lib.Signed.{ltZ}
 use lib.Ieee.{Float, nan, binary32, binary64, ofInt, toSigned, toUnsigned, add, sub, mul}
 use Rattle.laws.specs.Turns.{until}
-use Rattle.numbers.specs.Numbers.{wholeOf, away, downward}
+use Rattle.laws.specs.Modulo.{modulo}
+use Rattle.whole.specs.Whole.{wholeOf, away, downward}
 use Rattle.complex.specs.Complex.{zeroPair}
 use Rattle.complex.specs.declared.Complex32.{Complex32}
 use Rattle.resampler.specs.declared.pass.Resampler.{Resampler}
@@ -38,14 +39,9 @@ firstOf q s = s .position -ℤ pos (q .half)
 abbrev pub tapsOf : Resampler → List Float → Spot → List Float
 tapsOf q table s = armAt (q .arm) table (s .phase)
 
--- the Rust's `rem_euclid`: the number below m that differs from z by a multiple of m
-unfoldable pub remEuclid : ℕ → ℤ → ℕ
-remEuclid m (pos n) = n % m
-remEuclid m (negsuc n) = m - suc (n % m)
-
 -- (write + first - input_index).rem_euclid(ring.len())
 abbrev pub offsetOf : Resampler → Spot → ℕ
-offsetOf q s = remEuclid (q .arm + 16) (pos (q .write) +ℤ firstOf q s -ℤ pos (q .index))
+offsetOf q s = modulo (q .arm + 16) (pos (q .write) +ℤ firstOf q s -ℤ pos (q .index))
 
 -- ---- one output: for each tap in turn, the value at the offset times it, and the offset one on round the ring
 pub record Summing : Type 0 where

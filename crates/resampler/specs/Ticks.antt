@@ -22,8 +22,8 @@ use Rattle.laws.specs.FloatSums.{In, in-finite}
 use Rattle.laws.specs.FloatFractions.{Holds, value}
 use borrow.Author.Tests.{eq-eqb, ne-eqb}
 use Rattle.laws.specs.Places.{le-or}
-use Rattle.numbers.specs.Numbers.{wholeOf, away, downward}
-use Rattle.numbers.proofs.ToWhole.{away-is, whole-value}
+use Rattle.whole.specs.Whole.{wholeOf, away, downward}
+use Rattle.whole.proofs.ToWhole.{away-is, whole-value}
 use Rattle.resampler.specs.declared.pass.Place.{Place}
 use Rattle.resampler.specs.Pass.{placedOf}
 use Rattle.resampler.specs.Admitted.{f0, far}

@@ -4,6 +4,7 @@ ghost use Prim.Native.Nat.{_+_, _*_, _<_, _≤_};
 ghost use lib.ListN.{length};
 ghost use Rattle.resampler.specs.Design.{waveOf, rawTapOf, writtenOf};
 ghost use Rattle.resampler.specs.Loops.{tapPlaceOf, Raw, rawFrom, dividedOf};
+use numbers::TURN;
 use numbers::narrow::narrow;
 use numbers::narrow::widen;
 use routines::circle::cosine;
@@ -11,9 +12,6 @@ use routines::circle::sine;
 
 // The places of a table that has room for every rate: 32 arms of at most 576 taps.
 pub const TABLE: usize = 18432;
-
-// 2 pi radians.
-const TURN: f64 = 6.283185307179586;
 
 // The sine over its distance x from the middle; the limit in the middle itself.
 fn wave(omega: f64, x: f64) -> f64

@@ -4,7 +4,7 @@ ghost use Prim.Native.Nat as Nat;
 ghost use Rattle.resampler.specs.Dimensions.{nearestOf, sizedOf, freshOf};
 ghost use Rattle.resampler.specs.Admitted.{Countable, AdmittedRate, Sized};
 use super::pass::Resampler;
-use numbers::whole::round;
+use whole::round;
 
 // What setup fixes for a rate.
 pub struct Dimensions {

@@ -4,17 +4,17 @@ use mathlib.Core.Path.{_≡_, refl, sym, ap, _∙_, subst}
 use Prim.Native.Nat.{ℕ, zero, suc, _+_, _*_, _^_, _<_}
 use native.Mathlib.Nat.{mul-one, one-mul, mul-pos}
 use native.Mathlib.Omega.{arith}
-use mathlib.Core.Bool.{Bool, true, false, not, cond, true≢false}
+use mathlib.Core.Bool.{Bool, true, false, cond, true≢false}
 use lib.IntN.{ℤ, pos, negsuc}
 use lib.Dec.{T, eqb, eqb→eq}
 use lib.Pow.{pow-pos, pow-add}
-use lib.Ieee.{Float, nan, inf, fin, binary64, up, down, ofBits, neg, le, lt, eq, fits, isNan}
+use lib.Ieee.{Float, nan, inf, fin, binary64, up, down, ofBits, neg, le, eq, fits, isNan}
 use lib.Ieee.Fits.{up-pos, and-l}
 use lib.Ieee.Scale.{finite}
-use Rattle.laws.specs.FloatOrder.{not-lt→le}
 use Rattle.laws.specs.FloatRounding.{neg-neg, le-neg}
 use Rattle.laws.specs.FloatSums.{In}
 use Rattle.numbers.specs.Numbers.{absOf, signOf, clampOf}
+use Rattle.numbers.specs.Clamped.{clamp-in}
 use Rattle.routines.specs.Circle.{one, minusOne, farthest, inReach, turnedSine, turnedCosine, reducedOf, sizeSine, sizeCosine, withSign, sineOf, cosineOf, pairOf}
 use Rattle.routines.specs.Reached.{sine-number, cosine-number}
 
@@ -59,18 +59,9 @@ unfolding cosineOf
 cosine-even x = ap sizeCosine (abs-neg x)
 
 -- ---- within -1..1
-clamp-in : (v lo hi : Float) → T (finite v) → T (finite lo) → T (finite hi) → T (le lo hi) → T (le lo lo) → T (le hi hi) → In lo hi (clampOf v lo hi)
-unfolding clampOf
-clamp-in v lo hi F L H h l m = go (lt v lo) (lt hi v) (not-lt→le v lo F L) (not-lt→le hi v H F)
-  where
-    go : (s t : Bool) → (T (not s) → T (le lo v)) → (T (not t) → T (le v hi)) → In lo hi (cond s lo (cond t hi v))
-    go true t p q = record { lower = l; upper = h }
-    go false true p q = record { lower = h; upper = m }
-    go false false p q = record { lower = p tt; upper = q tt }
-
 unit-in : (v : Float) → T (finite v) → In minusOne one (clampOf v minusOne one)
 unfolding ofBits le
-unit-in v f = clamp-in v minusOne one f tt tt tt tt tt
+unit-in v f = clamp-in minusOne one v f tt tt
 
 one-neg : neg one ≡ minusOne
 unfolding ofBits neg

@@ -5,19 +5,20 @@ use mathlib.Core.Bool.{Bool, true, false, cond, not, _&&_, _||_, false≢true}
 use mathlib.Core.List.{List}
 use Prim.Native.Nat.{ℕ, zero, suc, _+_, _*_, _<_}
 use native.Mathlib.Omega.{arith}
-use lib.Dec.{T, ltb, eqb}
-use lib.Ieee.{Float, nan, inf, fin, binary32, ofBits, neg, up, down, lt, eq, le}
+use lib.Dec.{ltb, eqb}
+use lib.Ieee.{Float, nan, inf, fin, ofBits, neg, up, down, lt, eq, le}
 use borrow.Author.Tests.{lt-ltb, le-ltb, eq-eqb, ne-eqb}
 use Rattle.laws.specs.Turns.{turns}
 use Rattle.laws.specs.Places.{all-true, true-all}
 use Rattle.laws.specs.Branches.{and-true}
 use Rattle.laws.specs.Ring.{lt-or-ge}
+use Rattle.numbers.specs.Constants.{one32, minusOne32}
 use Rattle.numbers.specs.Numbers.{absOf, isFinite}
-use Rattle.samples.specs.declared.level.Level.{Level}
-use Rattle.samples.specs.Samples.{countOf, realOf, imaginaryOf, finiteOf, one, isAbove, overloadOf, measuredOf}
+use Rattle.samples.specs.declared.Level.{Level}
+use Rattle.samples.specs.Samples.{countOf, realOf, imaginaryOf, finiteOf, isAbove, overloadOf, measuredOf}
 
 unfoldable pub quietOf : Float → Bool
-quietOf x = le (ofBits binary32 0xbf800000) x && le x one
+quietOf x = le minusOne32 x && le x one32
 
 abbrev pub loudOf : Float → Float → ℕ
 loudOf real imaginary = cond (quietOf real && quietOf imaginary) 0 1

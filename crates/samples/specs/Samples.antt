@@ -3,10 +3,11 @@ use Prim.Native.Nat.{ℕ, _+_, _*_, _/_}
 use mathlib.Core.Bool.{Bool, true, false, cond, _&&_, _||_}
 use mathlib.Core.List.{List}
 use lib.ListN.{length, getD}
-use lib.Ieee.{Float, nan, binary32, ofBits, lt}
+use lib.Ieee.{Float, nan, lt}
 use Rattle.laws.specs.Turns.{turns}
+use Rattle.numbers.specs.Constants.{one32}
 use Rattle.numbers.specs.Numbers.{absOf, isFinite}
-use Rattle.samples.specs.declared.level.Level.{Level}
+use Rattle.samples.specs.declared.Level.{Level}
 
 abbrev pub countOf : List Float → ℕ
 countOf xs = length xs / 2
@@ -28,11 +29,8 @@ unfoldable pub finiteOf : List Float → Bool
 finiteOf xs = turns (finiteTurn xs) (countOf xs) true
 
 -- ---- overload: the number of samples with a part above 1 in size
-abbrev pub one : Float
-one = ofBits binary32 0x3f800000
-
 unfoldable pub isAbove : Float → Bool
-isAbove x = lt one (absOf x)
+isAbove x = lt one32 (absOf x)
 
 abbrev pub overloadTurn : List Float → ℕ → ℕ → ℕ
 overloadTurn xs k n = n + cond (isAbove (realOf xs k) || isAbove (imaginaryOf xs k)) 1 0

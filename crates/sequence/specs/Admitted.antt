@@ -5,8 +5,8 @@ use mathlib.Core.List.{List}
 use lib.Dec.{ltb, leb}
 use lib.ListN.{getD}
 use Rattle.laws.specs.Turns.{turns}
-use Rattle.sequence.specs.declared.walk.Previous.{Previous}
-use Rattle.sequence.specs.declared.walk.Previous.the-variants.{Unknown, Symbol}
+use Rattle.answers.specs.declared.walk.Previous.{Previous}
+use Rattle.answers.specs.declared.walk.Previous.the-variants.{Unknown, Symbol}
 use Rattle.sequence.specs.declared.step.DetectorPlace.{DetectorPlace}
 
 -- previous symbol below 4, where there is one

@@ -2,9 +2,9 @@
 -- Assumes nothing.
 use mathlib.Core.Path.{_≡_, refl, sym, ap, _∙_}
 use mathlib.Core.Logic.{inl, inr}
-use mathlib.Core.Bool.{Bool, true, false, _&&_}
+use mathlib.Core.Bool.{Bool, true, _&&_}
 use mathlib.Core.List.{List}
-use Prim.Native.Nat.{ℕ, zero, suc, _<_, _≤_, max}
+use Prim.Native.Nat.{ℕ, zero, suc, max}
 use native.Mathlib.Omega.{arith}
 use lib.Dec.{ltb, leb}
 use lib.ListN.{getD}
@@ -13,10 +13,10 @@ use Rattle.laws.specs.Turns.{turns}
 use Rattle.laws.specs.Places.{all-true, true-all}
 use Rattle.laws.specs.Branches.{and-true}
 use Rattle.laws.specs.Ring.{lt-or-ge}
-use Rattle.sequence.specs.declared.walk.Previous.{Previous}
-use Rattle.sequence.specs.declared.walk.Previous.the-variants.{Unknown, Symbol}
+use Rattle.answers.specs.declared.walk.Previous.{Previous}
+use Rattle.answers.specs.declared.walk.Previous.the-variants.{Unknown, Symbol}
 use Rattle.sequence.specs.declared.step.DetectorPlace.{DetectorPlace}
-use Rattle.sequence.specs.Walk.{Table, Earlier}
+use Rattle.answers.specs.Walk.{Table, Earlier}
 use Rattle.sequence.specs.Ranges.{PlaceRanged}
 use Rattle.sequence.specs.Admitted.{isSymbol, admittedOf, statesTurn, areStates, largestTurn, largestOf}
 

@@ -5,22 +5,22 @@ use mathlib.Core.Logic.{⊎-elim}
 use Prim.Native.Nat.{ℕ, zero, suc, _+_, _-_, _*_, _%_, _≤_, _<_}
 use native.Mathlib.Omega.{arith}
 use mathlib.Core.List.{List, [], _∷_}
-use lib.ListN.{length, getD, set, length-set}
+use lib.ListN.{length, getD, length-set}
 use lib.Seq.{getD-set-same, getD-set-other}
 use Rattle.laws.specs.Turns.{turns}
 use Rattle.laws.specs.Ring.{lt-or-ge}
 use Rattle.trellis.specs.Trellis.{advancedOf}
 use Rattle.trellis.specs.Laws.{best-below}
-use Rattle.sequence.specs.declared.soft.Slot.{Slot}
-use Rattle.sequence.specs.declared.soft.Soft.the-variants.{Unrecorded}
-use Rattle.sequence.specs.declared.walk.Previous.the-variants.{Symbol}
-use Rattle.sequence.specs.declared.walk.Answer.the-variants.{Silent}
-use Rattle.sequence.specs.declared.walk.Walked.{Walked}
-use Rattle.sequence.specs.Observed.{slotOf}
-use Rattle.sequence.specs.Walk.{storedOf, parentBefore, stateBeforeOf, decidedOf, walkedOf}
+use Rattle.answers.specs.declared.soft.Slot.{Slot}
+use Rattle.answers.specs.declared.soft.Soft.the-variants.{Unrecorded}
+use Rattle.answers.specs.declared.walk.Previous.the-variants.{Symbol}
+use Rattle.answers.specs.declared.walk.Answer.the-variants.{Silent}
+use Rattle.answers.specs.declared.walk.Walked.{Walked}
+use Rattle.answers.specs.Observed.{slotOf}
+use Rattle.answers.specs.Walk.{storedOf, parentBefore, stateBeforeOf, decidedOf, walkedOf}
 use Rattle.sequence.specs.Sequence.{oneMoreOf, reportedOf, steppedWith, steppedOf}
 use Rattle.sequence.specs.Ranges.{Sound}
-use Rattle.sequence.specs.Laws.{walk-silent, walk-full}
+use Rattle.answers.specs.Laws.{walk-silent, walk-full}
 use Rattle.sequence.specs.Steps.{below-is, above-is, stored-row, stored-other, stepped-kept}
 use Rattle.sequence.specs.Skeleton.{Skeleton, Step, oldestOf, leftOf, answerOf, putOf, afterOf, ranOf, Made, madeBy, madeAt, historyOf, traced}
 

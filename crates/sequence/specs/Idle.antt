@@ -6,29 +6,31 @@ use native.Mathlib.Omega.{arith}
 use mathlib.Core.Bool.{Bool, true, false, cond}
 use mathlib.Core.List.{List, [], _∷_, _++_}
 use lib.Dec.{ltb}
-use lib.ListN.{length, getD, set, replicate, getD-replicate}
+use lib.ListN.{length, getD, replicate, getD-replicate}
 use lib.Seq.{getD-set-same, getD-set-other}
 use lib.Ieee.{Float, nan, binary32, ofBits, add, sub, div, lt, eq}
 use Rattle.laws.specs.Turns.{turns}
-use Rattle.laws.specs.Places.{upto, upto-at}
+use Rattle.laws.specs.Places.{upto-at}
 use Rattle.laws.specs.Ring.{lt-or-ge}
 use Rattle.numbers.specs.Numbers.{signOf}
 use Rattle.complex.specs.declared.Complex32.{Complex32}
 use Rattle.complex.specs.declared.Observation.{Observation}
 use Rattle.complex.specs.declared.Observation.the-variants.{Absent}
-use Rattle.tracker.specs.Tracker.{Planes, predictionOf}
-use Rattle.trellis.specs.declared.choice.Branch.{Branch}
+use Rattle.complex.specs.Planes.{Planes}
+use Rattle.channels.specs.Channels.{predictionOf}
+use Rattle.arrivals.specs.declared.choice.Branch.{Branch}
 use Rattle.trellis.specs.declared.best.Least.{Least}
-use Rattle.trellis.specs.Trellis.{metricOf, branchOf, noBranch, better, chosenOf, arrivalOf, arrivedOf, precedes, bestTurn, bestOf, advancedOf}
-use Rattle.tracker.specs.declared.channel.Taps.{Taps}
-use Rattle.sequence.specs.declared.soft.Soft.the-variants.{Unrecorded}
-use Rattle.sequence.specs.declared.soft.Slot.{Slot}
-use Rattle.sequence.specs.declared.walk.Previous.{Previous}
-use Rattle.sequence.specs.declared.walk.Previous.the-variants.{Unknown, Symbol}
-use Rattle.sequence.specs.declared.walk.Answer.{Answer}
-use Rattle.sequence.specs.declared.walk.Answer.the-variants.{Silent, Dibit}
-use Rattle.sequence.specs.Observed.{observedWith, observedOf, recordOf, slotOf}
-use Rattle.sequence.specs.Walk.{storedOf, parentBefore, stateBeforeOf, decidedOf}
+use Rattle.arrivals.specs.Arrivals.{metricOf, branchOf, noBranch, better, chosenOf, arrivalOf}
+use Rattle.trellis.specs.Trellis.{arrivedOf, precedes, bestTurn, bestOf, advancedOf}
+use Rattle.channels.specs.declared.channel.Taps.{Taps}
+use Rattle.answers.specs.declared.soft.Soft.the-variants.{Unrecorded}
+use Rattle.answers.specs.declared.soft.Slot.{Slot}
+use Rattle.answers.specs.declared.walk.Previous.{Previous}
+use Rattle.answers.specs.declared.walk.Previous.the-variants.{Unknown, Symbol}
+use Rattle.answers.specs.declared.walk.Answer.{Answer}
+use Rattle.answers.specs.declared.walk.Answer.the-variants.{Silent, Dibit}
+use Rattle.answers.specs.Observed.{observedWith, observedOf, recordOf, slotOf}
+use Rattle.answers.specs.Walk.{storedOf, parentBefore, stateBeforeOf, decidedOf}
 use Rattle.sequence.specs.Sequence.{freshRecords, reportedOf, steppedWith, steppedOf}
 use Rattle.sequence.specs.Ranges.{Sound}
 use Rattle.sequence.specs.Steps.{below-is, above-is, same-or-other, stored-row, stored-other}

@@ -1,11 +1,8 @@
-pub mod Observed
-pub mod Walk
 pub mod Sequence
 pub mod Skeleton
 pub mod Ranges
 pub mod Admitted
 pub mod Lends
-pub mod Laws
 pub mod AdmittedLaws
 pub mod Steps
 pub mod History

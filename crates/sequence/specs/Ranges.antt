@@ -4,9 +4,9 @@ use Prim.Native.Nat.{ℕ, _<_, _≤_}
 use mathlib.Core.List.{List}
 use lib.ListN.{length}
 use lib.Ieee.{Float}
-use Rattle.tracker.specs.Tracker.{Parents}
+use Rattle.channels.specs.Channels.{Parents}
 use Rattle.sequence.specs.declared.step.DetectorPlace.{DetectorPlace}
-use Rattle.sequence.specs.Walk.{Table, Earlier}
+use Rattle.answers.specs.Walk.{Table, Earlier}
 use Rattle.sequence.specs.Sequence.{Stepped}
 use Rattle.sequence.specs.Skeleton.{Skeleton}
 
@@ -28,8 +28,8 @@ pub record Roomy (row : List ℕ) (real imaginary : List Float) : Type 0 where
   pub imaginary-size : length imaginary ≡ 64
 
 -- what a step leaves is in range, and each parent that it found is a state
-abbrev pub Kept : Stepped → Type 0
-Kept s = Ranged (s .detected .place) (s .costs) (s .parents) × Parents (s .row)
+abbrev pub RangedAfter : Stepped → Type 0
+RangedAfter s = Ranged (s .detected .place) (s .costs) (s .parents) × Parents (s .row)
 
 -- a skeleton in range, with 32 records
 pub record Sound (d : Skeleton) : Type 0 where

@@ -7,22 +7,24 @@ use lib.Dec.{ltb}
 use lib.ListN.{getD, replicate}
 use lib.Ieee.{Float, binary32, ofBits}
 use Rattle.laws.specs.Places.{upto}
+use Rattle.numbers.specs.Constants.{zero32, one32}
 use Rattle.routines.specs.Angle.{arctangentOf}
 use Rattle.complex.specs.declared.Complex32.{Complex32}
 use Rattle.complex.specs.Complex.{differenceOf, conjugateProductOf, powerOf}
 use Rattle.complex.specs.declared.Observation.the-variants.{Absent}
-use Rattle.tracker.specs.Tracker.{Planes, pointAt, tapsOf}
+use Rattle.complex.specs.Planes.{Planes, pointAt}
+use Rattle.channels.specs.Channels.{tapsOf}
 use Rattle.trellis.specs.Trellis.{Advance, advancedOf}
-use Rattle.sequence.specs.declared.combine.Seen.{Seen}
-use Rattle.sequence.specs.declared.soft.Soft.{Soft}
-use Rattle.sequence.specs.declared.soft.Soft.the-variants.{Unrecorded}
-use Rattle.sequence.specs.declared.soft.Records.{Records}
-use Rattle.sequence.specs.declared.walk.Previous.the-variants.{Unknown}
-use Rattle.sequence.specs.declared.walk.Walked.{Walked}
+use Rattle.answers.specs.declared.combine.Seen.{Seen}
+use Rattle.answers.specs.declared.soft.Soft.{Soft}
+use Rattle.answers.specs.declared.soft.Soft.the-variants.{Unrecorded}
+use Rattle.answers.specs.declared.soft.Records.{Records}
+use Rattle.answers.specs.declared.walk.Previous.the-variants.{Unknown}
+use Rattle.answers.specs.declared.walk.Walked.{Walked}
 use Rattle.sequence.specs.declared.step.DetectorPlace.{DetectorPlace}
 use Rattle.sequence.specs.declared.step.Detected.{Detected}
-use Rattle.sequence.specs.Observed.{zero32, one32, observedOf, noiseAfterOf, recordOf, slotOf}
-use Rattle.sequence.specs.Walk.{storedOf, walkedOf}
+use Rattle.answers.specs.Observed.{observedOf, noiseAfterOf, recordOf, slotOf}
+use Rattle.answers.specs.Walk.{storedOf, walkedOf}
 
 -- ---- a fresh detector
 

@@ -5,14 +5,15 @@ use mathlib.Core.Bool.{Bool}
 use mathlib.Core.List.{List, [], _∷_}
 use lib.ListN.{getD, set, replicate}
 use lib.Ieee.{Float}
+use Rattle.numbers.specs.Constants.{zero32}
 use Rattle.complex.specs.declared.Complex32.{Complex32}
-use Rattle.tracker.specs.Tracker.{Planes}
-use Rattle.sequence.specs.declared.soft.Soft.{Soft}
-use Rattle.sequence.specs.declared.soft.Soft.the-variants.{Unrecorded}
-use Rattle.sequence.specs.declared.soft.Records.{Records}
-use Rattle.sequence.specs.declared.walk.Answer.{Answer}
+use Rattle.complex.specs.Planes.{Planes}
+use Rattle.answers.specs.declared.soft.Soft.{Soft}
+use Rattle.answers.specs.declared.soft.Soft.the-variants.{Unrecorded}
+use Rattle.answers.specs.declared.soft.Records.{Records}
+use Rattle.answers.specs.declared.walk.Answer.{Answer}
 use Rattle.sequence.specs.declared.step.DetectorPlace.{DetectorPlace}
-use Rattle.sequence.specs.Observed.{zero32, slotOf, recordBefore}
+use Rattle.answers.specs.Observed.{slotOf, recordBefore}
 use Rattle.sequence.specs.Sequence.{freshPlace, freshRecords, Stepped, steppedOf}
 
 pub record Skeleton : Type 0 where

@@ -10,26 +10,27 @@ use lib.Ieee.Bits.{is-true, is-false}
 use lib.ListN.{length, getD, set}
 use lib.Seq.{getD-set-other}
 use lib.Ieee.{Float}
-use Rattle.laws.specs.Turns.{turns, turns-none}
+use Rattle.laws.specs.Turns.{turns-none}
 use Rattle.laws.specs.Places.{length-upto, turns-keep, laid, laid-at, laid-off, length-laid}
 use Rattle.laws.specs.Ring.{lt-or-ge}
 use Rattle.complex.specs.declared.Complex32.{Complex32}
-use Rattle.tracker.specs.declared.channel.Taps.{Taps}
-use Rattle.tracker.specs.Tracker.{Planes, pointAt, tapsOf, Parents}
+use Rattle.channels.specs.declared.channel.Taps.{Taps}
+use Rattle.complex.specs.Planes.{Planes, pointAt}
+use Rattle.channels.specs.Channels.{tapsOf, Parents}
 use Rattle.trellis.specs.Trellis.{Advance, advancedOf}
-use Rattle.trellis.specs.Laws.{arrived-parents}
-use Rattle.sequence.specs.declared.combine.Seen.{Seen}
-use Rattle.sequence.specs.declared.soft.Soft.{Soft}
-use Rattle.sequence.specs.declared.walk.Previous.{Previous}
-use Rattle.sequence.specs.declared.walk.Previous.the-variants.{Symbol}
-use Rattle.sequence.specs.declared.walk.Answer.the-variants.{Silent}
-use Rattle.sequence.specs.declared.walk.Walked.{Walked}
+use Rattle.arrivals.specs.Laws.{arrived-parents}
+use Rattle.answers.specs.declared.combine.Seen.{Seen}
+use Rattle.answers.specs.declared.soft.Soft.{Soft}
+use Rattle.answers.specs.declared.walk.Previous.{Previous}
+use Rattle.answers.specs.declared.walk.Previous.the-variants.{Symbol}
+use Rattle.answers.specs.declared.walk.Answer.the-variants.{Silent}
+use Rattle.answers.specs.declared.walk.Walked.{Walked}
 use Rattle.sequence.specs.declared.step.DetectorPlace.{DetectorPlace}
 use Rattle.sequence.specs.declared.step.Detected.{Detected}
-use Rattle.sequence.specs.Observed.{observedOf}
-use Rattle.sequence.specs.Walk.{storedOf, stateBeforeOf, Table, Earlier, decidedOf, walkedOf}
+use Rattle.answers.specs.Observed.{observedOf}
+use Rattle.answers.specs.Walk.{storedOf, stateBeforeOf, Table, Earlier, decidedOf, walkedOf}
 use Rattle.sequence.specs.Sequence.{oneMoreOf, reportedOf, Stepped, steppedWith, steppedOf}
-use Rattle.sequence.specs.Ranges.{Ranged, Kept}
+use Rattle.sequence.specs.Ranges.{Ranged, RangedAfter}
 
 -- ---- a test of two numbers
 module _ {A : Type 0} (a b : ℕ) (x y : A) where
@@ -97,7 +98,7 @@ more-most : (filled : ℕ) → oneMoreOf filled ≤ 32
 more-most filled = ⊎-elim (λ l. subst (λ (k : ℕ). k ≤ 32) (below-is filled 32 (filled + 1) 32 l) (omega arith)) (λ g. subst (λ (k : ℕ). k ≤ 32) (above-is filled 32 (filled + 1) 32 g) (omega arith)) (lt-or-ge filled 32)
 
 pub stepped-kept : (d : DetectorPlace) (input : Complex32) (reliable : Bool) (oldest : Soft) (c : Planes) (costs : List Float) (parents : List ℕ)
-    → Ranged d costs parents → Kept (steppedOf d input reliable oldest c costs parents)
+    → Ranged d costs parents → RangedAfter (steppedOf d input reliable oldest c costs parents)
 unfolding steppedOf steppedWith reportedOf advancedOf
 stepped-kept d input reliable oldest c costs parents h = (
   record {
@@ -129,7 +130,7 @@ pub step-meets : (d : DetectorPlace) (input : Complex32) (reliable : Bool) (olde
     → Ranged d costs parents
     → (_≡_ {A = Stepped} (record { detected = r; costs = after; parents = stored; row = row; predictions = predictions }) (steppedOf d input reliable oldest c costs parents))
     × (Ranged (r .place) after stored × Parents row)
-step-meets d input reliable oldest c costs parents best after row stored predictions t seen walked r ea et es ep ew er h = (same, subst Kept (sym same) (stepped-kept d input reliable oldest c costs parents h))
+step-meets d input reliable oldest c costs parents best after row stored predictions t seen walked r ea et es ep ew er h = (same, subst RangedAfter (sym same) (stepped-kept d input reliable oldest c costs parents h))
   where
     same : _≡_ {A = Stepped} (record { detected = r; costs = after; parents = stored; row = row; predictions = predictions }) (steppedOf d input reliable oldest c costs parents)
     same = unfold steppedOf in unfold steppedWith in rw (er, ew, es, et, ep) (ap (steppedWith d input reliable oldest c parents) ea)

@@ -1,7 +1,7 @@
 -- Theorems about a fresh detector and any list of inputs, NaN included: the bound of the costs, and which steps answer. Assumes nothing.
 use mathlib.Core.Path.{_≡_, refl, ap, sym, _∙_, subst}
 use mathlib.Core.Logic.{⊎-elim}
-use Prim.Native.Nat.{ℕ, zero, suc, _+_, _%_, _≤_, _<_}
+use Prim.Native.Nat.{ℕ, suc, _+_, _%_, _≤_, _<_}
 use native.Mathlib.Omega.{arith}
 use mathlib.Core.Bool.{Bool}
 use mathlib.Core.List.{List, [], _∷_}
@@ -9,20 +9,21 @@ use lib.ListN.{length, getD, length-replicate, getD-replicate}
 use lib.Ieee.{Float, nan}
 use Rattle.laws.specs.Ring.{lt-or-ge}
 use Rattle.laws.specs.FloatSums.{In}
+use Rattle.numbers.specs.Constants.{zero32}
 use Rattle.trellis.specs.Metric.{c0, nought}
 use Rattle.trellis.specs.Costs.{c48, Good, fresh-good, good-same}
 use Rattle.trellis.specs.Bound.{good-step}
 use Rattle.complex.specs.declared.Complex32.{Complex32}
-use Rattle.tracker.specs.Tracker.{Planes}
+use Rattle.complex.specs.Planes.{Planes}
 use Rattle.sequence.specs.declared.step.DetectorPlace.{DetectorPlace}
-use Rattle.sequence.specs.declared.soft.Soft.{Soft}
-use Rattle.sequence.specs.declared.soft.Soft.the-variants.{Unrecorded, Recorded}
-use Rattle.sequence.specs.declared.walk.Previous.{Previous}
-use Rattle.sequence.specs.declared.walk.Previous.the-variants.{Unknown, Symbol}
-use Rattle.sequence.specs.declared.walk.Answer.{Answer}
-use Rattle.sequence.specs.declared.walk.Answer.the-variants.{Silent, Dibit}
-use Rattle.sequence.specs.Observed.{zero32, slotOf}
-use Rattle.sequence.specs.Walk.{decidedOf}
+use Rattle.answers.specs.declared.soft.Soft.{Soft}
+use Rattle.answers.specs.declared.soft.Soft.the-variants.{Unrecorded, Recorded}
+use Rattle.answers.specs.declared.walk.Previous.{Previous}
+use Rattle.answers.specs.declared.walk.Previous.the-variants.{Unknown, Symbol}
+use Rattle.answers.specs.declared.walk.Answer.{Answer}
+use Rattle.answers.specs.declared.walk.Answer.the-variants.{Silent, Dibit}
+use Rattle.answers.specs.Observed.{slotOf}
+use Rattle.answers.specs.Walk.{decidedOf}
 use Rattle.sequence.specs.Sequence.{freshRecords, oneMoreOf, steppedWith, steppedOf}
 use Rattle.sequence.specs.Ranges.{Sound}
 use Rattle.sequence.specs.Steps.{below-is}

@@ -3,8 +3,8 @@ use Prim.Native.Nat.{ℕ}
 use mathlib.Core.Bool.{Bool}
 use mathlib.Core.List.{List, [], _∷_}
 use Rattle.complex.specs.declared.Complex32.{Complex32}
-use Rattle.tracker.specs.Tracker.{Planes}
-use Rattle.sequence.specs.declared.walk.Answer.{Answer}
+use Rattle.complex.specs.Planes.{Planes}
+use Rattle.answers.specs.declared.walk.Answer.{Answer}
 use Rattle.sequence.specs.Skeleton as Skeleton
 
 -- what a symbol brings

@@ -1,6 +1,6 @@
 -- THE DETECTOR WITH A TRACKER IS THE SKELETON over the channels that the tracker makes, whichever tracker it is; so what holds of the skeleton for every
 -- list of steps holds of each detector for every list of inputs, NaN included. Assumes nothing.
-use mathlib.Core.Path.{_≡_, refl, ap, ap₂, sym, _∙_, subst}
+use mathlib.Core.Path.{_≡_, refl, ap, sym, _∙_, subst}
 use Prim.Native.Nat.{ℕ, suc, _%_, _≤_, _<_}
 use mathlib.Core.Bool.{false}
 use mathlib.Core.List.{List, [], _∷_, _++_}
@@ -9,9 +9,9 @@ use lib.Ieee.{nan}
 use Rattle.laws.specs.FloatSums.{In}
 use Rattle.trellis.specs.Metric.{c0}
 use Rattle.trellis.specs.Costs.{c48}
-use Rattle.sequence.specs.declared.walk.Answer.{Answer}
-use Rattle.sequence.specs.declared.walk.Answer.the-variants.{Silent, Dibit}
-use Rattle.sequence.specs.Walk.{decidedOf}
+use Rattle.answers.specs.declared.walk.Answer.{Answer}
+use Rattle.answers.specs.declared.walk.Answer.the-variants.{Silent, Dibit}
+use Rattle.answers.specs.Walk.{decidedOf}
 use Rattle.sequence.specs.Skeleton as Skeleton
 use Rattle.sequence.specs.Skeleton.{madeBy, madeAt, historyOf, traced}
 use Rattle.sequence.specs.Ranges.{Sound}

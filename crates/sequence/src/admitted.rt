@@ -3,10 +3,10 @@
 ghost use mathlib.Core.Path.{_≡_};
 ghost use Prim.Native.Nat as Nat;
 ghost use Rattle.sequence.specs.Admitted.{isSymbol, admittedOf, largestOf, areStates};
-use super::PARENTS;
-use super::STEPS;
 use super::step::DetectorPlace;
-use super::walk::Previous;
+use answers::PARENTS;
+use answers::STEPS;
+use answers::walk::Previous;
 
 // The previous symbol is below 4, where there is one.
 fn is_symbol(previous: Previous) -> bool
@@ -27,7 +27,7 @@ pub fn is_admitted(d: DetectorPlace) -> bool
     ranges & is_symbol(previous)
 }
 
-fn larger(a: u8, b: u8) -> u8
+fn most(a: u8, b: u8) -> u8
     ensures { λ r. ⌜ r ≡ Nat.max a b ⌝ }
 {
     if a < b { b } else { a }
@@ -36,13 +36,13 @@ fn larger(a: u8, b: u8) -> u8
 fn largest(parents: &[u8; PARENTS]) -> u8
     ensures { λ r. ⌜ r ≡ largestOf (now (parents .entry)) ⌝ }
 {
-    let mut most = 0;
+    let mut found = 0;
     let mut i = 0;
     while i < PARENTS {
-        most = larger(most, parents[i]);
+        found = most(found, parents[i]);
         i += 1;
     }
-    most
+    found
 }
 
 // Every stored parent is a state: below 64.

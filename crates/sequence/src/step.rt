@@ -2,31 +2,31 @@
 ghost use mathlib.Core.Path.{_≡_};
 ghost use Prim.Native.Nat.{_<_};
 ghost use Rattle.sequence.specs.Sequence.{freshPlace, freshTap, freshReal, freshRecords, phaseBetweenOf, powerToldOf, oneMoreOf, reportedOf, steppedOf};
-ghost use Rattle.sequence.specs.Ranges.{Ranged, Roomy, Kept};
+ghost use Rattle.sequence.specs.Ranges.{Ranged, Roomy, RangedAfter};
 ghost use Rattle.sequence.specs.Lends.{leaves};
-use super::CHANNELS;
-use super::PARENTS;
-use super::STATES;
-use super::STEPS;
-use super::combine::Seen;
-use super::combine::observed;
-use super::soft::Records;
-use super::soft::Slot;
-use super::soft::Soft;
-use super::soft::noise_after;
-use super::soft::record;
-use super::walk::Answer;
-use super::walk::Previous;
-use super::walk::Walked;
-use super::walk::store;
-use super::walk::walk;
+use answers::PARENTS;
+use answers::STEPS;
+use answers::combine::Seen;
+use answers::combine::observed;
+use answers::soft::Records;
+use answers::soft::Slot;
+use answers::soft::Soft;
+use answers::soft::noise_after;
+use answers::soft::record;
+use answers::walk::Answer;
+use answers::walk::Previous;
+use answers::walk::Walked;
+use answers::walk::store;
+use answers::walk::walk;
+use channels::CHANNELS;
+use channels::STATES;
+use channels::channel::taps_at;
 use complex::Complex32;
 use complex::Observation;
 use complex::multiplied_conjugate;
 use complex::power;
 use complex::subtracted;
 use routines::angle::arctangent;
-use tracker::channel::taps_at;
 use trellis::step::advance;
 
 // What the detector keeps beside its planes: the row for the next step's parents and record, how
@@ -176,7 +176,7 @@ pub fn step(
     requires { ⌜ Roomy (now row) (now «prediction_real») (now «prediction_imaginary») ⌝ }
     ensures { λ r. ⌜ leaves r costs parents row «prediction_real» «prediction_imaginary»
         (λ held table after. (after ≡ steppedOf d input reliable oldest
-        (record { real = now («channel_real» .entry); imaginary = now («channel_imaginary» .entry) }) held table) × Kept after) ⌝ }
+        (record { real = now («channel_real» .entry); imaginary = now («channel_imaginary» .entry) }) held table) × RangedAfter after) ⌝ }
 {
     let best = advance(
         channel_real,

@@ -7,6 +7,7 @@ use Prim.Native.Nat.{ℕ, _+_, _*_, _%_, _<_, _≤_}
 use lib.Dec.{T}
 use lib.ListN.{getD, set}
 use lib.Ieee.{Float, nan, binary32, binary64, ofBits, toBits, neg, add, div, le, eq, isNan, fits}
+use Rattle.numbers.specs.Constants.{zero32}
 use Rattle.numbers.specs.Numbers.{convert}
 use Rattle.complex.specs.declared.Complex32.{Complex32}
 use Rattle.signal.specs.Signal.{pointAt, missedOf}
@@ -29,7 +30,7 @@ isSized x = le leastPart x || le x (neg leastPart)
 
 -- of a size from 2 ^ -60 to 2 ^ 60, or zero
 abbrev pub isPlain : Float → Bool
-isPlain x = (isSized x && (le x mostPart && le (neg mostPart) x)) || eq (ofBits binary32 0x00000000) x
+isPlain x = (isSized x && (le x mostPart && le (neg mostPart) x)) || eq zero32 x
 
 -- the parts are plain, and the amplitude too
 abbrev pub commonOf : Bool → Float → Bool

@@ -6,8 +6,9 @@ use Prim.Native.Nat.{ℕ, _+_, _*_, _%_, min}
 use lib.ListN.{getD}
 use lib.Dec.{leb}
 use lib.Ieee.{Float, nan, inf, binary32, binary64, ofBits, toBits, add, le, isNan, fits}
+use Rattle.numbers.specs.Constants.{zero64}
 use Rattle.signal.specs.declared.plain.Power.{Power}
-use Rattle.signal.specs.Signal.{zero64, power64, pointsFrom, summed}
+use Rattle.signal.specs.Signal.{power64, pointsFrom, summed}
 use Rattle.signal.specs.Plain.{PlainRound}
 
 -- a NaN is taken for infinity

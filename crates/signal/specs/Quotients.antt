@@ -27,14 +27,14 @@ use Rattle.signal.specs.Plain.{isPlain, PlainAmplitude, Usual}
 
 -- ---- sizes from 2 ^ -60 to 2 ^ 60
 
-pub record Sized (m : ℕ) (e : ℤ) : Type 0 where
+pub record OrdinarySize (m : ℕ) (e : ℤ) : Type 0 where
   pub lower : down e ≤ m * up e * 1152921504606846976
   pub upper : m * up e ≤ 1152921504606846976 * down e
 
 abbrev pub PlainSize : Float → Type 0
 PlainSize nan = ⊥
 PlainSize (inf s) = ⊥
-PlainSize (fin s m e) = (m ≡ 0) ⊎ Sized m e
+PlainSize (fin s m e) = (m ≡ 0) ⊎ OrdinarySize m e
 
 -- m * 2 ^ e, with its sign, at least 2 ^ -60, or at most its negative
 least-over : (s : Bool) (M E : ℕ) → 0 < E → 1 * E + cond s M 0 * 1152921504606846976 ≤ cond s 0 M * 1152921504606846976 + 0 * E → E ≤ M * 1152921504606846976
@@ -84,8 +84,8 @@ module _ (s : Bool) (m : ℕ) (e : ℤ) where
   abbrev inside : Bool
   inside = le it high60 && le (neg high60) it
 
-  sized-of : T (near && inside) → Sized m e
-  sized-of t =
+  ordinary-of : T (near && inside) → OrdinarySize m e
+  ordinary-of t =
       let u = and-r near inside t in
       record {
         lower = lower-of (or-split (le low60 it) (le it (neg low60)) (and-l near inside t));
@@ -94,7 +94,7 @@ module _ (s : Bool) (m : ℕ) (e : ℤ) where
 
   plain-fin : T (isPlain it) → PlainSize it
   unfolding ofBits
-  plain-fin h = ⊎-elim (λ t. inr (sized-of t)) (λ t. inl (zero-of t)) (or-split (near && inside) (eq (fin false 0 (pos 0)) it) h)
+  plain-fin h = ⊎-elim (λ t. inr (ordinary-of t)) (λ t. inl (zero-of t)) (or-split (near && inside) (eq (fin false 0 (pos 0)) it) h)
 
 pub plain-size : (x : Float) → T (isPlain x) → PlainSize x
 unfolding ofBits neg le eq
@@ -169,7 +169,7 @@ module _ (s : Bool) (m : ℕ) (e : ℤ) where
 -- ---- an amplitude is above zero too
 pub record Amplitude (s : Bool) (m : ℕ) (e : ℤ) : Type 0 where
   pub clear : s ≡ false
-  pub sized : Sized m e
+  pub ordinary : OrdinarySize m e
 
 abbrev pub AmplitudeSize : Float → Type 0
 AmplitudeSize nan = ⊥
@@ -183,7 +183,7 @@ amplitude-fin true m e h k = absurd (go (m * up e) (down e) (down-pos e) (le→ 
     go M E p q = omega arith
 amplitude-fin false m e h k = record {
   clear = refl;
-  sized = record { lower = lower-of false m e (inl h); upper = go (m * up e) (down e) (le→ (fin false m e) high60 tt tt k) };
+  ordinary = record { lower = lower-of false m e (inl h); upper = go (m * up e) (down e) (le→ (fin false m e) high60 tt tt k) };
 }
   where
     go : (M E : ℕ) → M * 1 + 0 * E ≤ 1152921504606846976 * E + 0 * 1 → M ≤ 1152921504606846976 * E
@@ -330,7 +330,7 @@ swap C D M =
 swap' : (C E N : ℕ) → C * E * (N * C) ≡ C * C * (N * E)
 swap' C E N = swap C E N ∙ mul-comm (N * E) (C * C)
 
-module _ (s : Bool) (m : ℕ) (e : ℤ) (n : ℕ) (d : ℤ) (S : Sized n d) where
+module _ (s : Bool) (m : ℕ) (e : ℤ) (n : ℕ) (d : ℤ) (S : OrdinarySize n d) where
   above : 0 < n
   above = first-pos n (up d) (go (n * up d) (down d) (down-pos d) (S .lower))
     where
@@ -344,7 +344,7 @@ module _ (s : Bool) (m : ℕ) (e : ℤ) (n : ℕ) (d : ℤ) (S : Sized n d) wher
   over-pos : 0 < n * up d * down e
   over-pos = mul-pos (mul-pos above (up-pos d)) (down-pos e)
 
-  usual-fin : (m ≡ 0) ⊎ Sized m e → Usual (div binary64 (fin s m e) (fin false n d))
+  usual-fin : (m ≡ 0) ⊎ OrdinarySize m e → Usual (div binary64 (fin s m e) (fin false n d))
   usual-fin (inl z) = subst Usual (sym quotient-is) (usual-none (unlike s false) (m * up e * down d) (n * up d * down e) over-pos (ap (λ (k : ℕ). k * up e * down d) z ∙ ap (λ (k : ℕ). k * down d) (zero-mul (up e)) ∙ zero-mul (down d)))
   usual-fin (inr z) =
       subst Usual (sym quotient-is)
@@ -368,7 +368,7 @@ usual-quotient x a h k = go x a (plain-size x h) (amplitude-size a k)
     go (fin s m e) nan h k = absurd k
     go (fin s m e) (inf t) h k = absurd k
     go (fin s m e) (fin true n d) h k = absurd (true≢false (k .clear))
-    go (fin s m e) (fin false n d) h k = usual-fin s m e n d (k .sized) h
+    go (fin s m e) (fin false n d) h k = usual-fin s m e n d (k .ordinary) h
 
 -- ---- narrowing in place: the last 29 digits rounded off
 abbrev pub inPlace : ℕ → ℕ

@@ -6,12 +6,13 @@ use lib.Dec.{eqb, ltb, leb}
 use lib.IntN.{pos}
 use lib.ListN.{length, getD, set, drop}
 use lib.Ieee.{Float, nan, binary32, binary64, ofBits, ofInt, add, sub, mul, div, lt}
+use Rattle.numbers.specs.Constants.{zero64}
 use Rattle.laws.specs.Places.{upto}
 use Rattle.laws.specs.Ring.{latest}
 use Rattle.numbers.specs.Numbers.{absOf, isFinite, convert}
 use Rattle.numbers.specs.Root.{sqrtOf}
 use Rattle.complex.specs.declared.Complex32.{Complex32}
-use Rattle.complex.specs.Complex.{zeroPair, conjugateProductOf}
+use Rattle.complex.specs.Complex.{rootHalf, zeroPair, conjugateProductOf}
 use Rattle.complex.specs.declared.Observation.{Observation}
 use Rattle.complex.specs.declared.Observation.the-variants.{Absent, Present}
 use Rattle.signal.specs.declared.ViewPlace.{ViewPlace}
@@ -39,10 +40,6 @@ pub record Admitted (p : ViewPlace) : Type 0 where
   pub count : p .count ≤ 1024
 
 -- ---- a push
-
--- 1 / sqrt(2) in f32
-abbrev pub rootHalf : Float
-rootHalf = ofBits binary32 0x3f3504f3  -- 0.70710677
 
 -- an eighth of a turn on, by pi / 4
 abbrev pub eighthTurnOf : Complex32 → Complex32
@@ -91,9 +88,6 @@ unfoldable pub pointsFrom : List Float → List Float → ℕ → ℕ → List C
 pointsFrom real imaginary from n = upto (λ k. pointAt real imaginary ((from + k) % 1024)) n
 
 -- ---- a read
-
-abbrev pub zero64 : Float
-zero64 = ofBits binary64 0x0000000000000000  -- 0
 
 -- f of each point, added up from the first to the last
 unfoldable pub summed : (Complex32 → Float) → List Complex32 → Float

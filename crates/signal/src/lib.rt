@@ -18,6 +18,7 @@ use numbers::compare::abs;
 use numbers::compare::is_finite;
 use numbers::narrow::narrow;
 use numbers::narrow::widen;
+use patterns::least_usize;
 use plain::Power;
 use plain::are_plain;
 use plain::is_common;
@@ -92,13 +93,6 @@ fn paired(previous: Observation, symbol: Observation) -> Complex32
     rotated(before, now)
 }
 
-// The smaller of two numbers.
-fn least(a: usize, b: usize) -> usize
-    ensures { λ r. ⌜ r ≡ min a b ⌝ }
-{
-    if a < b { a } else { b }
-}
-
 // One point more, at most 1,024.
 fn counted(count: usize) -> usize
     ensures { λ r. ⌜ r ≡ min (count + 1) 1024 ⌝ }
@@ -135,7 +129,7 @@ fn power_sum(real: &[f32; POINTS], imaginary: &[f32; POINTS], start: usize, coun
     requires { ⌜ count ≤ 1024 ⌝ }
     ensures { λ r. ⌜ PowerOf (now (real .entry)) (now (imaginary .entry)) start count r ⌝ }
 {
-    let first = least(count, POINTS - start);
+    let first = least_usize(count, POINTS - start);
     let none = Power {
         sum: 0.0,
         across: 0xffff_ffff,
@@ -209,7 +203,7 @@ fn write_plain(
     ensures { λ r. ⌜ readsPoints real imaginary start count (λ points. leavesFloats output (λ before after.
         _≡_ {A = WrittenPoints} (record { errors = r; output = after }) (writtenOf amplitude points before))) ⌝ }
 {
-    let first = least(count, POINTS - start);
+    let first = least_usize(count, POINTS - start);
     let early = write_run(
         real,
         imaginary,
@@ -276,7 +270,7 @@ pub fn read(
     ensures { λ r. ⌜ reads place real imaginary (λ view. leavesFloats output (λ before after.
         _≡_ {A = Read} (record { reading = r; output = after }) (readOf view before))) ⌝ }
 {
-    let count = least(place.count, output.len() / 2);
+    let count = least_usize(place.count, output.len() / 2);
     let start = (place.head + POINTS - count) % POINTS;
     let powers = power_sum(real, imaginary, start, count);
     let plain = are_plain(powers);

@@ -44,7 +44,7 @@ fn span(x: f32) -> u32
 }
 
 // The smaller of two spans.
-fn smaller(a: u32, b: u32) -> u32
+fn least(a: u32, b: u32) -> u32
     ensures { λ r. ⌜ r ≡ min a b ⌝ }
 {
     if a < b { a } else { b }
@@ -68,8 +68,8 @@ fn with_point(power: Power, x: f32, y: f32) -> Power
     let v = b as f64;
     Power {
         sum: power.sum + (u * u + v * v),
-        across: smaller(power.across, span(a)),
-        up: smaller(power.up, span(b)),
+        across: least(power.across, span(a)),
+        up: least(power.up, span(b)),
     }
 }
 

@@ -12,10 +12,10 @@ ghost use Rattle.signal.specs.Signal.{errorAt};
 ghost use Rattle.signal.specs.Plain.{Usual, PlainRun, PlainAmplitude, errorFrom, sumStep, writeStep, runOf};
 ghost use Rattle.signal.specs.Rows.{UsualRow, pointPut, divideTurn, errorTurn, pointTurn};
 use super::POINTS;
-use super::least;
 use super::plain::error;
 use super::plain::narrow;
 use super::plain::quotient;
+use patterns::least_usize;
 
 // The points of a row.
 const ROW: usize = 32;
@@ -149,7 +149,7 @@ pub fn write_run(
         count (now (output .entry)) ⌝ }
 {
     let mut row = [0.0; QUOTIENTS];
-    let first = least(count, ROW);
+    let first = least_usize(count, ROW);
     divide_row(real, imaginary, from, first, amplitude, &mut row);
     let mut sum = before;
     let mut at = 0;

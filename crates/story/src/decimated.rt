@@ -1,6 +1,5 @@
 // The decimator of a receiver by itself.
-ghost use Prim.Native.Nat.{_<_, _≤_};
-ghost use lib.ListN.{length};
+ghost use Prim.Native.Nat.{_<_};
 use super::kept::is_zero;
 use super::kept::plus;
 use complex::Complex32;

@@ -1,6 +1,5 @@
 // A receiver that hears the samples block by block.
 ghost use mathlib.Core.Path.{_≡_};
-ghost use Prim.Native.Nat.{_≤_};
 ghost use lib.ListN.{length};
 use super::kept::told_off;
 use super::kept::told_over;

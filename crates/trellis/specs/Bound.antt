@@ -19,10 +19,12 @@ use Rattle.laws.specs.FloatOrder.{or-split, or-l, or-r, le-self, le-trans', not
 use Rattle.laws.specs.FloatSums.{In, in-finite}
 use Rattle.numbers.specs.Numbers.{signOf}
 use Rattle.complex.specs.declared.Complex32.{Complex32}
-use Rattle.tracker.specs.Tracker.{Planes, predictionOf}
-use Rattle.trellis.specs.declared.choice.Branch.{Branch}
+use Rattle.complex.specs.Planes.{Planes}
+use Rattle.channels.specs.Channels.{predictionOf}
+use Rattle.arrivals.specs.declared.choice.Branch.{Branch}
 use Rattle.trellis.specs.declared.best.Least.{Least}
-use Rattle.trellis.specs.Trellis.{metricOf, better, noBranch, branchOf, chosenOf, arrivalOf, arrivedOf, precedes, bestTurn, bestOf, advancedOf}
+use Rattle.arrivals.specs.Arrivals.{metricOf, better, noBranch, branchOf, chosenOf, arrivalOf}
+use Rattle.trellis.specs.Trellis.{arrivedOf, precedes, bestTurn, bestOf, advancedOf}
 use Rattle.trellis.specs.Metric.{c0, nought, metric-in}
 use Rattle.trellis.specs.Costs.{c48, c64, cand, cheaper, kept, next, Good, fresh-good, keeps, good-next, good-same}
 

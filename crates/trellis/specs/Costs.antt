@@ -81,14 +81,14 @@ cheaper-is x y i j = go (lt y x) (lt→le y x) (not-lt→le y x (fin0 y j) (fin0
 trans : (x y z : Float) → In c0 c64 x → In c0 c64 y → In c0 c64 z → T (le x y) → T (le y z) → T (le x z)
 trans x y z i j k = le-trans' x y z (fin0 x i) (fin0 y j) (fin0 z k)
 
-pub record Kept (c : ℕ → Float) (m : ℕ → ℕ → Float) (s : ℕ) : Type 0 where
+pub record Cheapest (c : ℕ → Float) (m : ℕ → ℕ → Float) (s : ℕ) : Type 0 where
   pub of0 : T (le (kept c m s) (cand c m s 0))
   pub of1 : T (le (kept c m s) (cand c m s 1))
   pub of2 : T (le (kept c m s) (cand c m s 2))
   pub of3 : T (le (kept c m s) (cand c m s 3))
   pub ok : In c0 c64 (kept c m s)
 
-kept-is : (c : ℕ → Float) (m : ℕ → ℕ → Float) (s : ℕ) → ((r : ℕ) → r < 4 → In c0 c64 (cand c m s r)) → Kept c m s
+kept-is : (c : ℕ → Float) (m : ℕ → ℕ → Float) (s : ℕ) → ((r : ℕ) → r < 4 → In c0 c64 (cand c m s r)) → Cheapest c m s
 unfolding kept
 kept-is c m s h =
     let x0 = cand c m s 0 in
@@ -113,7 +113,7 @@ kept-is c m s h =
       ok = subst (λ (z : Float). In c0 c64 z) (sym e) (d .within);
     }
 
-kept-le : (c : ℕ → Float) (m : ℕ → ℕ → Float) (s : ℕ) → Kept c m s → (r : ℕ) → r < 4 → T (le (kept c m s) (cand c m s r))
+kept-le : (c : ℕ → Float) (m : ℕ → ℕ → Float) (s : ℕ) → Cheapest c m s → (r : ℕ) → r < 4 → T (le (kept c m s) (cand c m s r))
 kept-le c m s k zero l = k .of0
 kept-le c m s k (suc zero) l = k .of1
 kept-le c m s k (suc (suc zero)) l = k .of2
@@ -137,7 +137,7 @@ module _ (c : ℕ → Float) (m : ℕ → ℕ → Float) (g : Good c) (metric : 
       in-wider (add binary32 c0 c0) (add binary32 c48 c16) c0 c64 tt tt tt tt
       (add-in binary32 c0 c48 c0 c16 tt tt (g .ranged (s / 4 + 16 * r) (prior-lt s r l k)) (metric (s / 4 + 16 * r) (s % 4) (prior-lt s r l k) (symbol-lt s)))
 
-  pub keeps : (s : ℕ) → s < 64 → Kept c m s
+  pub keeps : (s : ℕ) → s < 64 → Cheapest c m s
   keeps s l = kept-is c m s (λ r k. cand-in s r l k)
 
   -- a state is no dearer than one of its priors and a metric

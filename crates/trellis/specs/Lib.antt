@@ -1,11 +1,10 @@
 pub mod Trellis
 pub mod Layout
 pub mod Lends
-pub mod Runs
 pub mod Order
 pub mod Best
 pub mod Metric
-pub mod Arrivals
+pub mod Plain
 pub mod Laws
 pub mod Costs
 pub mod Bound

@@ -13,7 +13,7 @@ use Rattle.laws.specs.FloatRounding.{signed, round-signed}
 use Rattle.laws.specs.FloatSums.{In}
 use Rattle.complex.specs.declared.Complex32.{Complex32}
 use Rattle.complex.specs.Complex.{differenceOf, powerOf}
-use Rattle.trellis.specs.Trellis.{cap, cappedOf, metricOf}
+use Rattle.arrivals.specs.Arrivals.{cap, cappedOf, metricOf}
 
 abbrev pub c0 : Float
 c0 = fin false 0 (pos 0)

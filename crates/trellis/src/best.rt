@@ -6,7 +6,7 @@ ghost use lib.Ieee as Ieee;
 ghost use Rattle.laws.specs.Places.{upto};
 ghost use Rattle.trellis.specs.Trellis.{bestOf};
 ghost use Rattle.trellis.specs.Layout.{nearerOf, Plain};
-use tracker::STATES;
+use channels::STATES;
 
 // A state and what it costs.
 pub struct Least {

@@ -3,23 +3,26 @@
 ghost use mathlib.Core.Path.{_≡_};
 ghost use Prim.Native.Nat.{_*_, _<_};
 ghost use lib.ListN.{length};
-ghost use Rattle.tracker.specs.Lends.{reads};
-ghost use Rattle.tracker.specs.Tracker.{Parents};
-ghost use Rattle.trellis.specs.Trellis.{arrivalOf, advancedOf};
-ghost use Rattle.trellis.specs.Layout.{sweptOf, Values};
-ghost use Rattle.trellis.specs.Lends.{lays, fills, leaves};
+ghost use Rattle.complex.specs.Lends.{reads};
+ghost use Rattle.channels.specs.Channels.{Parents};
+ghost use Rattle.arrivals.specs.Arrivals.{arrivalOf};
+ghost use Rattle.trellis.specs.Trellis.{advancedOf};
+ghost use Rattle.arrivals.specs.Layout.{sweptOf};
+ghost use Rattle.trellis.specs.Layout.{Values};
+ghost use Rattle.arrivals.specs.Lends.{lays, fills};
+ghost use Rattle.trellis.specs.Lends.{leaves};
 use super::best::cheapest;
 use super::best::take_off;
-use super::branch::branches;
-use super::choice::choose;
-use super::choice::interleave;
-use super::choice::interleave_priors;
+use arrivals::branch::branches;
+use arrivals::choice::choose;
+use arrivals::choice::interleave;
+use arrivals::choice::interleave_priors;
+use channels::CHANNELS;
+use channels::PAST_TERMS;
+use channels::STATES;
+use channels::predict::past_terms;
+use channels::symbols::symbol;
 use complex::Complex32;
-use tracker::CHANNELS;
-use tracker::PAST_TERMS;
-use tracker::STATES;
-use tracker::predict::past_terms;
-use tracker::symbols::symbol;
 
 // The first cheapest branches by the symbol k, laid at 16 k and after it.
 fn sweep(

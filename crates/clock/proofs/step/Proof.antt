@@ -1,5 +1,5 @@
 -- `clock::step` meets its contract: without a symbol the windows stay; with one they are what `matched` leaves. Assumes nothing.
-use Rattle.clock.specs.Laws.{run-waiting, run-symbol, after-symbol}
+use Rattle.clock.specs.Laws.{step-waiting, step-symbol, after-symbol}
 use borrow.Author.Needs.{needs}
 use Rattle.clock.proofs.step.Statement.{statement}
 use Rattle.clock.proofs.step.Tie as tie
@@ -14,7 +14,7 @@ enum-told : tie.Need-enum-told
 enum-told c = search needs
 
 returns : tie.Need-returns
-returns c = (run-waiting _ _ _ _ _ _ _ _ _ _ (c .before .before .ticked .ensures .0) (c .enum-told .given .1), c .before .before .ticked .ensures .1)
+returns c = (step-waiting _ _ _ _ _ _ _ _ _ _ (c .before .before .ticked .ensures .0) (c .enum-told .given .1), c .before .before .ticked .ensures .1)
 
 matched-requires : tie.Need-matched-requires
 matched-requires c κs =
@@ -27,7 +27,7 @@ returns-2 : tie.Need-returns-2
 returns-2 c =
     let is-ticked = c .before .before .before .before .before .before .before .before .before .before .ticked .ensures in
     let is-due = c .before .before .before .before .before .before .before .before .due .given .1 in
-    (run-symbol _ _ _ _ _ _ _ _ _ _ (is-ticked .0) _ _ _ is-due (c .matched .ensures), is-ticked .1)
+    (step-symbol _ _ _ _ _ _ _ _ _ _ (is-ticked .0) _ _ _ is-due (c .matched .ensures), is-ticked .1)
 
 pub step-spec : {M : Type 1} → statement M
 step-spec =

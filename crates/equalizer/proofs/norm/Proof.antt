@@ -2,7 +2,8 @@
 use Prim.Native.Nat.{_≤_, _-_}
 use mathlib.Core.Path.{_≡_}
 use Rattle.laws.specs.Turns.{turns, turns-start, turns-step, turns-end}
-use Rattle.equalizer.specs.Equalizer.{rowOf, zero32, normTurn, normOf}
+use Rattle.numbers.specs.Constants.{zero32}
+use Rattle.equalizer.specs.Equalizer.{rowOf, normTurn, normOf}
 use borrow.Author.Needs.{needs}
 use Rattle.equalizer.proofs.norm.Statement.{statement}
 use Rattle.equalizer.proofs.norm.Tie as tie

@@ -7,11 +7,11 @@ use Rattle.front.proofs.several.Tie as tie
 sub-needed : tie.Need-sub-needed
 sub-needed c = search needs
 
-sub-least : tie.Need-sub-least
-sub-least c = search needs
+sub-least-usize : tie.Need-sub-least-usize
+sub-least-usize c = search needs
 
-least-requires : tie.Need-least-requires
-least-requires c κs = search needs
+least-usize-requires : tie.Need-least-usize-requires
+least-usize-requires c κs = search needs
 
 gather-requires : tie.Need-gather-requires
 gather-requires c κs = search needs
@@ -22,7 +22,7 @@ add-t22 c = search needs
 returns : tie.Need-returns
 returns c =
     let entry = c .before .before .before .before .before .before .before .before .before .before .before .before in
-    let least = c .before .before .before .before .before .before .least in
+    let least = c .before .before .before .before .before .before .least-usize in
     let gather = c .before .before .before .before .before .gather in
     waits-is _ _ _ _ (entry .pre .0) (entry .pre .1 .0) _ _ _ (least .ensures) (gather .ensures) (c .before .before .if1 .taken)
 
@@ -32,7 +32,7 @@ decimate-requires c κs = search needs
 returns-2 : tie.Need-returns-2
 returns-2 c =
     let entry = c .before .before .before .before .before .before .before .before .before .before .before .before .before in
-    let least = c .before .before .before .before .before .before .before .least in
+    let least = c .before .before .before .before .before .before .before .least-usize in
     let gather = c .before .before .before .before .before .before .gather in
     whole-is _ _ _ _ (entry .pre .0) (entry .pre .1 .0) _ _ _ (least .ensures) (gather .ensures) _ (c .before .before .before .if1 .left) (c .before .before .decimate .ensures)
 
@@ -41,8 +41,8 @@ several-spec =
     tie.close
     (tie.spec
     sub-needed
-    sub-least
-    least-requires
+    sub-least-usize
+    least-usize-requires
     gather-requires
     add-t22
     returns

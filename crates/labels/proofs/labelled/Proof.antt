@@ -16,13 +16,13 @@ returns c = search needs
 relabelled-requires : tie.Need-relabelled-requires
 relabelled-requires c κs = search needs
 
-lesser-requires : tie.Need-lesser-requires
-lesser-requires c κs = search needs
+least-requires : tie.Need-least-requires
+least-requires c κs = search needs
 
 returns-2 : tie.Need-returns-2
 returns-2 c =
     let answer-is = c .before .before .before .before .answer .given in
-    label-rearranged _ _ _ _ _ (answer-is .1) _ _ (c .before .before .if1 .taken) (c .before .relabelled .ensures) (c .lesser .ensures)
+    label-rearranged _ _ _ _ _ (answer-is .1) _ _ (c .before .before .if1 .taken) (c .before .relabelled .ensures) (c .least .ensures)
 
 returns-3 : tie.Need-returns-3
 returns-3 c = label-kept _ _ _ _ _ (c .before .before .answer .given .1) (c .if1 .left)
@@ -35,6 +35,6 @@ labelled-spec =
     enum-told
     returns
     relabelled-requires
-    lesser-requires
+    least-requires
     returns-2
     returns-3)

@@ -64,14 +64,14 @@ word-requires-13 c κs =
     let entry = c .before .before .before .before .before .before .before .before .before .before .before .before .before .before .before .before .before .before in
     omega (arith, entry .pre)
 
-lesser-requires : tie.Need-lesser-requires
-lesser-requires c κs = search needs
+least-requires : tie.Need-least-requires
+least-requires c κs = search needs
 
 returns : tie.Need-returns
 returns c =
     let at-carrier-loop = c .before .before .before .before .before .before .before in
     let at-keeper = at-carrier-loop .before .before .before .before .before .before .before in
-    record { keeper-head = at-keeper .keeper .ensures .0; keeper-fill = at-keeper .keeper .ensures .1; alternation = at-carrier-loop .carrier-loop .ensures; view-head = search needs; view-count = search needs; locked = c .lesser .ensures }
+    record { keeper-head = at-keeper .keeper .ensures .0; keeper-fill = at-keeper .keeper .ensures .1; alternation = at-carrier-loop .carrier-loop .ensures; view-head = search needs; view-count = search needs; locked = omega (arith, c .least .ensures) }
 
 pub decoded-spec : {M : Type 1} → statement M
 decoded-spec =
@@ -95,5 +95,5 @@ decoded-spec =
     high-requires
     profile-requires
     word-requires-13
-    lesser-requires
+    least-requires
     returns)

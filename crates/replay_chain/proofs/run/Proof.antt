@@ -28,27 +28,27 @@ read-word-requires c κs = search needs
 low-requires : tie.Need-low-requires Inv-loop μ-loop
 low-requires c κs = search needs
 
-lesser-requires : tie.Need-lesser-requires Inv-loop μ-loop
-lesser-requires c κs = search needs
+least-requires : tie.Need-least-requires Inv-loop μ-loop
+least-requires c κs = search needs
 
 high-requires : tie.Need-high-requires Inv-loop μ-loop
 high-requires c κs = search needs
 
-lesser-requires-2 : tie.Need-lesser-requires-2 Inv-loop μ-loop
-lesser-requires-2 c κs = search needs
+least-requires-2 : tie.Need-least-requires-2 Inv-loop μ-loop
+least-requires-2 c κs = search needs
 
 read-row-requires : tie.Need-read-row-requires Inv-loop μ-loop
 read-row-requires c κs =
-    let at-lesser = c .before .before .before .before in
-    at-lesser .lesser .ensures
+    let at-least = c .before .before .before .before in
+    omega (arith, at-least .least .ensures)
 
 row-requires : tie.Need-row-requires Inv-loop μ-loop
 row-requires c κs =
     let test = c .before .before .before .before .before .before .before .before .before .before .before .before .before .before in
-    let at-lesser2 = test .before .before .before .before .before in
-    let at-lesser = at-lesser2 .before .before in
-    let turn = at-lesser .before .before .before .before in
-    (turn .loop .inv, (omega (arith, test .if1 .left), (at-lesser .lesser .ensures, at-lesser2 .lesser2 .ensures)))
+    let at-least2 = test .before .before .before .before .before in
+    let at-least = at-least2 .before .before in
+    let turn = at-least .before .before .before .before in
+    (turn .loop .inv, (omega (arith, test .if1 .left), (omega (arith, at-least .least .ensures), omega (arith, at-least2 .least2 .ensures))))
 
 sub-left : tie.Need-sub-left Inv-loop μ-loop
 sub-left c =
@@ -78,9 +78,9 @@ run-spec =
     loop-holds
     read-word-requires
     low-requires
-    lesser-requires
+    least-requires
     high-requires
-    lesser-requires-2
+    least-requires-2
     read-row-requires
     row-requires
     sub-left

@@ -29,11 +29,11 @@ wanted-requires c κs = search needs
 wanted-requires-2 : tie.Need-wanted-requires-2 Inv-loop μ-loop
 wanted-requires-2 c κs = search needs
 
-sub-least : tie.Need-sub-least Inv-loop μ-loop
-sub-least c = search needs
+sub-least-usize : tie.Need-sub-least-usize Inv-loop μ-loop
+sub-least-usize c = search needs
 
-least-requires : tie.Need-least-requires Inv-loop μ-loop
-least-requires c κs = search needs
+least-usize-requires : tie.Need-least-usize-requires Inv-loop μ-loop
+least-usize-requires c κs = search needs
 
 add-end : tie.Need-add-end Inv-loop μ-loop
 add-end c = search needs
@@ -64,7 +64,7 @@ loop-again : tie.Need-loop-again Inv-loop μ-loop
 loop-again c =
     let at-least = c .before .before .before .before in
     let turn = at-least .before .before .before .before in
-    (refl, moves-fit _ _ _ _ (c .before .turned .ensures) (turn .loop .inv .1), omega (arith, at-least .least .ensures, turn .loop .inv .2), search needs)
+    (refl, moves-fit _ _ _ _ (c .before .turned .ensures) (turn .loop .inv .1), omega (arith, at-least .least-usize .ensures, turn .loop .inv .2), search needs)
 
 returns : tie.Need-returns Inv-loop μ-loop
 returns c = search needs
@@ -79,8 +79,8 @@ play-spec =
     loop-holds
     wanted-requires
     wanted-requires-2
-    sub-least
-    least-requires
+    sub-least-usize
+    least-usize-requires
     add-end
     sub-turned
     part-turned-start

@@ -1,6 +1,5 @@
 -- `replay_states::put_plane` is safe and ends. Assumes nothing.
 use Prim.Native.Nat.{_-_, _≤_}
-use mathlib.Core.Path.{_≡_}
 use lib.ListN.{length}
 use borrow.Author.Needs.{needs}
 use Rattle.replay_states.proofs.put_plane.Statement.{statement}

@@ -75,10 +75,10 @@ mul-left : tie.Need-mul-left
 mul-left c = search needs
 
 mul-lower : tie.Need-mul-lower
-mul-lower c = omega (arith, lower-lt (c .before .before .before .before))
+mul-lower c = let entry = c .before .before .before .before in omega (arith, lower-lt entry)
 
 add-lower : tie.Need-add-lower
-add-lower c = omega (arith, lower-lt (c .before .before .before .before))
+add-lower c = let entry = c .before .before .before .before in omega (arith, lower-lt entry)
 
 add-if3 : tie.Need-add-if3
 add-if3 c = search needs

@@ -37,9 +37,10 @@ returns-2 c = let a = c .before .before .before in root-made binary32 (a .args .
 
 returns-3 : tie.Need-returns-3
 returns-3 c =
-    let a = c .before .before .before .before .before in
+    let prepared = c .before .before .before .before in
+    let a = prepared .before in
     c .sqrt32-finite .ensures
-    ∙ root-made binary32 (a .args .x) (held a) (Digits (c .before .before .r .given .0 .0) (c .before .before .r .given .0 .1 .0)) (sym (c .before .before .before .before .prepared32 .ensures) ∙ c .before .before .r .given .1)
+    ∙ root-made binary32 (a .args .x) (held a) (Digits (c .before .before .r .given .0 .0) (c .before .before .r .given .0 .1 .0)) (sym (prepared .prepared32 .ensures) ∙ c .before .before .r .given .1)
 
 pub sqrt32-spec : {M : Type 1} → statement M
 sqrt32-spec =

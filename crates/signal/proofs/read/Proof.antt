@@ -5,8 +5,8 @@ use borrow.Author.Needs.{needs}
 use Rattle.signal.proofs.read.Statement.{statement}
 use Rattle.signal.proofs.read.Tie as tie
 
-least-requires : tie.Need-least-requires
-least-requires c κs = search needs
+least-usize-requires : tie.Need-least-usize-requires
+least-usize-requires c κs = search needs
 
 add-start : tie.Need-add-start
 add-start c = search needs
@@ -46,7 +46,7 @@ same-length c = search needs
 
 returns : tie.Need-returns
 returns c =
-    let is-least = c .before .before .before .before .before .before .before .before .before .before .before .before .before .least .ensures in
+    let is-least = c .before .before .before .before .before .before .before .before .before .before .before .before .before .least-usize .ensures in
     let is-power-sum = c .before .before .before .before .before .before .before .before .before .before .before .power-sum .ensures in
     let is-mean = c .before .before .before .before .before .before .before .before .before .mean .ensures in
     let is-usable = c .before .before .before .before .before .before .before .before .is-usable .ensures in
@@ -58,7 +58,7 @@ returns c =
 
 returns-2 : tie.Need-returns-2
 returns-2 c =
-    let is-least = c .before .before .before .before .before .before .least .ensures in
+    let is-least = c .before .before .before .before .before .before .least-usize .ensures in
     let is-power-sum = c .before .before .before .before .power-sum .ensures in
     read-nothing _ _ _ _ _ _ is-least (is-power-sum .sum) (c .before .before .mean .ensures) (c .before .is-usable .ensures) (c .if1 .left)
 
@@ -66,7 +66,7 @@ pub read-spec : {M : Type 1} → statement M
 read-spec =
     tie.close
     (tie.spec
-    least-requires
+    least-usize-requires
     add-start
     sub-start
     power-sum-requires

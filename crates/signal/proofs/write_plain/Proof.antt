@@ -4,11 +4,11 @@ use borrow.Author.Needs.{needs}
 use Rattle.signal.proofs.write_plain.Statement.{statement}
 use Rattle.signal.proofs.write_plain.Tie as tie
 
-sub-least : tie.Need-sub-least
-sub-least c = search needs
+sub-least-usize : tie.Need-sub-least-usize
+sub-least-usize c = search needs
 
-least-requires : tie.Need-least-requires
-least-requires c κs = search needs
+least-usize-requires : tie.Need-least-usize-requires
+least-usize-requires c κs = search needs
 
 write-run-requires : tie.Need-write-run-requires
 write-run-requires c κs =
@@ -17,7 +17,7 @@ write-run-requires c κs =
       search needs,
       (
         search needs,
-        (search needs, (plain-early (a .args .start) (a .args .count) _ (a .pre .0) (a .pre .1 .0) (c .before .least .ensures) _ _ (p .0), p .1)),
+        (search needs, (plain-early (a .args .start) (a .args .count) _ (a .pre .0) (a .pre .1 .0) (c .before .least-usize .ensures) _ _ (p .0), p .1)),
       ),
     )
 
@@ -26,7 +26,7 @@ sub-write-run c = search needs
 
 write-run-requires-2 : tie.Need-write-run-requires-2
 write-run-requires-2 c κs =
-    let is-least = c .before .before .before .before .before .least .ensures in
+    let is-least = c .before .before .before .before .before .least-usize .ensures in
     let a = c .before .before .before .before .before .before .before in
     let p = a .pre .1 .1 .1 in (
       search needs,
@@ -41,7 +41,7 @@ same-length c = search needs
 
 returns : tie.Need-returns
 returns c =
-    let is-least = c .before .before .before .before .before .before .before .before .least .ensures in
+    let is-least = c .before .before .before .before .before .before .before .before .least-usize .ensures in
     let is-write-run = c .before .before .before .before .before .before .write-run .ensures in
     let a = c .before .before .before .before .before .before .before .before .before .before in
     written-runs (a .args .start) (a .args .count) _ (a .pre .0) (a .pre .1 .0) is-least
@@ -52,8 +52,8 @@ pub write-plain-spec : {M : Type 1} → statement M
 write-plain-spec =
     tie.close
     (tie.spec
-    sub-least
-    least-requires
+    sub-least-usize
+    least-usize-requires
     write-run-requires
     sub-write-run
     write-run-requires-2

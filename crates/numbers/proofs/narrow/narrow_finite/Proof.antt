@@ -83,7 +83,7 @@ cast-result : tie.Need-cast-result
 cast-result c = search needs
 
 abbrev sgn : tie.After-sign32 → Bool
-sgn c = c .before .before .before .before .before .before .args .s
+sgn c = let entry = c .before .before .before .before .before .before in entry .args .s
 
 capped : (c : tie.After-sign32) → c .before .least .result ≤ 0x7f80_0000
 capped c = subst (λ (x : ℕ). x ≤ 0x7f80_0000) (sym (c .before .least .ensures)) (min-le (c .before .before .before .less .result * 8388608 + c .before .before .shifted .result) 0x7f80_0000)

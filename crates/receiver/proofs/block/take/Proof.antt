@@ -5,8 +5,9 @@ use lib.ListN.{length}
 use mir.Syntax.{w32}
 use mir.Val.{SFits}
 use mir.Facts.{toZ-ofZ}
-use Rattle.samples.specs.Run.{wholeNow}
-use Rattle.receiver.specs.BlockLaws.{run-asks, take-asks, take-total, taken-is, take-refused}
+use Rattle.run.specs.Run.{wholeNow}
+use Rattle.receiver.specs.Accepted.{take-asks, take-total}
+use Rattle.receiver.specs.BlockLaws.{run-asks, taken-is, take-refused}
 use borrow.Author.Needs.{needs}
 use Rattle.receiver.proofs.block.take.Statement.{statement}
 use Rattle.receiver.proofs.block.take.Tie as tie
@@ -31,7 +32,10 @@ parents : (entry : tie.Start) → length (entry .args .r .parents) ≡ 2048
 parents entry = search (needs, entry .good .0 .1 .1 .1 .1 .1 .1 .1 .1 .1 .1 .1 .1 .1 .1 .1 .1 .1 .0)
 
 -- and its profile is a number of 32 bits
-profile-fits : (told : tie.After-struct-told) → SFits w32 (told .before .before .before .before .before .before .before .before .before .before .before .before .before .before .before .before .before .before .before .before .before .before .before .before .before .before .args .r .chain .profile)
+abbrev handed-in : tie.After-struct-told → tie.Start
+handed-in told = let entry = told .before .before .before .before .before .before .before .before .before .before .before .before .before .before .before .before .before .before .before .before .before .before .before .before .before .before in entry
+
+profile-fits : (told : tie.After-struct-told) → SFits w32 (handed-in told .args .r .chain .profile)
 profile-fits told = search (needs, told .struct-told .given)
 
 judged-requires : tie.Need-judged-requires

@@ -1,6 +1,7 @@
 -- `set_up` meets its contract: checks 1, 2 and 3 in turn, then the table is written and the state is fresh.
 use mir.Facts.{toZ-ofZ}
-use Rattle.receiver.specs.Ways.{rate-admitted, setup-rate, setup-offset, setup-table, setup-accepted}
+use Rattle.checks.specs.Ways.{rate-admitted}
+use Rattle.receiver.specs.Ways.{setup-rate, setup-offset, setup-table, setup-accepted}
 use native.Mathlib.Omega.{arith}
 use borrow.Author.Needs.{needs}
 use Rattle.receiver.proofs.setup.set_up.Statement.{statement}

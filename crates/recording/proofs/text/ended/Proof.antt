@@ -13,7 +13,10 @@ slice-write-out c =
     ended-last _ _ _ _ _ _ (c .before .before .decimal .ensures) asked
 
 add-result : tie.Need-add-result
-add-result c = let h = ended-last _ _ _ _ _ _ (c .before .before .decimal .ensures) (c .before .before .before .before .before .pre) in search needs
+add-result c =
+    let asked = c .before .before .before .before .before .pre in
+    let h = ended-last _ _ _ _ _ _ (c .before .before .decimal .ensures) asked in
+    search needs
 
 same-length : tie.Need-same-length
 same-length c = search needs

@@ -15,7 +15,8 @@ same-length c = search needs
 
 returns : tie.Need-returns
 returns c =
-    let e = field-put _ _ _ _ _ (c .before .before .before .before .before .before .copied .ensures) (c .before .before .ended .ensures) in
+    let copied = c .before .before .before .before .before .before .copied .ensures in
+    let e = field-put _ _ _ _ _ copied (c .before .before .ended .ensures) in
     (e, (field-near _ _ _ _ _ _ (search needs) e, put-room _ _ _ _ _ e))
 
 pub field-spec : {M : Type 1} → statement M

@@ -6,22 +6,22 @@ use Rattle.replay_receiver.proofs.desk.block.Statement.{statement}
 use Rattle.replay_receiver.proofs.desk.block.Tie as tie
 
 slice-aggregate-block-in : tie.Need-slice-aggregate-block-in
-slice-aggregate-block-in c = sym (length-take-le _ _ (c .before .before .before .before .if2 .taken))
+slice-aggregate-block-in c = let tested = c .before .before .before .before in sym (length-take-le _ _ (tested .if2 .taken))
 
 slice-aggregate-block-in-2 : tie.Need-slice-aggregate-block-in-2
-slice-aggregate-block-in-2 c = sym (length-take-le _ _ (c .before .before .before .before .before .before .if1 .taken))
+slice-aggregate-block-in-2 c = let tested = c .before .before .before .before .before .before in sym (length-take-le _ _ (tested .if1 .taken))
 
 slice-relend-prefix-block-in : tie.Need-slice-relend-prefix-block-in
 slice-relend-prefix-block-in c = search needs
 
 slice-aggregate-block-in-3 : tie.Need-slice-aggregate-block-in-3
-slice-aggregate-block-in-3 c = sym (length-take-le _ _ (c .before .before .before .before .before .if3 .taken))
+slice-aggregate-block-in-3 c = let tested = c .before .before .before .before .before in sym (length-take-le _ _ (tested .if3 .taken))
 
 slice-relend-prefix-block-in-2 : tie.Need-slice-relend-prefix-block-in-2
 slice-relend-prefix-block-in-2 c = search needs
 
 slice-aggregate-block-in-4 : tie.Need-slice-aggregate-block-in-4
-slice-aggregate-block-in-4 c = sym (length-take-le _ _ (c .before .before .before .before .before .if4 .taken))
+slice-aggregate-block-in-4 c = let tested = c .before .before .before .before .before in sym (length-take-le _ _ (tested .if4 .taken))
 
 block-in-requires : tie.Need-block-in-requires
 block-in-requires c κs = search needs

@@ -8,19 +8,19 @@ use Rattle.sequence.proofs.admitted.largest.Statement.{statement}
 use Rattle.sequence.proofs.admitted.largest.Tie as tie
 
 abbrev Inv-loop : tie.InvT-loop
-Inv-loop parents most₀ i₀ most i = (i ≤ 2048) × (most ≡ turns (largestTurn parents) i 0)
+Inv-loop parents found₀ i₀ found i = (i ≤ 2048) × (found ≡ turns (largestTurn parents) i 0)
 
 abbrev μ-loop : tie.MeasureT-loop
-μ-loop parents most₀ i₀ most i = 2048 - i
+μ-loop parents found₀ i₀ found i = 2048 - i
 
 loop-holds : tie.Need-loop-holds Inv-loop μ-loop
 loop-holds c = (search needs, turns-start _ _)
 
-element-copy-out-larger : tie.Need-element-copy-out-larger Inv-loop μ-loop
-element-copy-out-larger c = search needs
+element-copy-out-most : tie.Need-element-copy-out-most Inv-loop μ-loop
+element-copy-out-most c = search needs
 
-larger-requires : tie.Need-larger-requires Inv-loop μ-loop
-larger-requires c κs = search needs
+most-requires : tie.Need-most-requires Inv-loop μ-loop
+most-requires c κs = search needs
 
 add-i : tie.Need-add-i Inv-loop μ-loop
 add-i c = search needs
@@ -29,7 +29,7 @@ loop-less : tie.Need-loop-less Inv-loop μ-loop
 loop-less c = search needs
 
 loop-again : tie.Need-loop-again Inv-loop μ-loop
-loop-again c = (search needs, c .larger .ensures ∙ turns-step _ _ _ _ (c .before .before .before .loop .inv .1))
+loop-again c = (search needs, c .most .ensures ∙ turns-step _ _ _ _ (c .before .before .before .loop .inv .1))
 
 returns : tie.Need-returns Inv-loop μ-loop
 unfolding largestOf
@@ -42,8 +42,8 @@ largest-spec =
     Inv-loop
     μ-loop
     loop-holds
-    element-copy-out-larger
-    larger-requires
+    element-copy-out-most
+    most-requires
     add-i
     loop-less
     loop-again

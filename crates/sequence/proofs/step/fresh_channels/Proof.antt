@@ -1,5 +1,5 @@
 -- `fresh_channels` meets its contract: 256 turns, each storing the fresh tap of its place. Assumes nothing.
-use mathlib.Core.Path.{_≡_, ap}
+use mathlib.Core.Path.{_≡_}
 use Prim.Native.Nat.{_-_, _≤_}
 use lib.ListN.{length}
 use lib.Ieee.{nan}

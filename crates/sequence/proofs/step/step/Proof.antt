@@ -59,15 +59,16 @@ walk-requires c κs =
     (given .place .write, advanced .1 .0, table, given .place .earlier)
 
 reported-requires : tie.Need-reported-requires
-reported-requires c κs = c .before .before .before .before .before .before .before .before .before .before .before .before .before .before .before .pre .0 .place .write
+reported-requires c κs = let given = c .before .before .before .before .before .before .before .before .before .before .before .before .before .before .before .pre .0 in given .place .write
 
 returns : tie.Need-returns
 returns c =
+    let given = c .before .before .before .before .before .before .before .before .before .before .before .before .before .before .before .before .pre .0 in
     let advanced = c .before .before .before .before .before .before .before .before .before .before .before .advance .ensures in
     let survivor = c .before .before .before .before .before .before .before .taps-at .ensures in
     let seen = c .before .before .before .before .before .before .observed .ensures in
     let stored = c .before .before .before .store .ensures in
-    step-meets _ _ _ _ _ _ _ _ _ _ _ _ _ _ _ _ (advanced .0) survivor seen stored (c .before .walk .ensures) (c .reported .ensures) (c .before .before .before .before .before .before .before .before .before .before .before .before .before .before .before .before .pre .0)
+    step-meets _ _ _ _ _ _ _ _ _ _ _ _ _ _ _ _ (advanced .0) survivor seen stored (c .before .walk .ensures) (c .reported .ensures) given
 
 pub step-spec : {M : Type 1} → statement M
 step-spec =

@@ -19,20 +19,20 @@ float-to-float-v c = number-exact _ (c .row-known2 .given) (c .before .before .n
 span-requires : tie.Need-span-requires
 span-requires c κs = search needs
 
-smaller-requires : tie.Need-smaller-requires
-smaller-requires c κs = search needs
+least-requires : tie.Need-least-requires
+least-requires c κs = search needs
 
 span-requires-2 : tie.Need-span-requires-2
 span-requires-2 c κs = search needs
 
-smaller-requires-2 : tie.Need-smaller-requires-2
-smaller-requires-2 c κs = search needs
+least-requires-2 : tie.Need-least-requires-2
+least-requires-2 c κs = search needs
 
 returns : tie.Need-returns
 returns c =
     let is-y = c .before .before .before .before .before .before .before .no-nan2 .ensures in
     let is-x = c .before .before .before .before .before .before .before .before .no-nan .ensures in
-    rw (c .smaller2 .ensures, c .before .span2 .ensures, c .before .before .smaller .ensures, c .before .before .before .span .ensures, is-y .0, is-x .0)
+    rw (c .least2 .ensures, c .before .span2 .ensures, c .before .before .least .ensures, c .before .before .before .span .ensures, is-y .0, is-x .0)
 
 pub with-point-spec : {M : Type 1} → statement M
 with-point-spec =
@@ -43,7 +43,7 @@ with-point-spec =
     float-to-float-u
     float-to-float-v
     span-requires
-    smaller-requires
+    least-requires
     span-requires-2
-    smaller-requires-2
+    least-requires-2
     returns)

@@ -21,8 +21,8 @@ Inv-loop real imaginary from done count amplitude output₀ before row₀ first 
 abbrev μ-loop : tie.MeasureT-loop
 μ-loop real imaginary from done count amplitude output₀ before row₀ first sum₀ at₀ output row sum at = count - at
 
-least-requires : tie.Need-least-requires Inv-loop μ-loop
-least-requires c κs = search needs
+least-usize-requires : tie.Need-least-usize-requires Inv-loop μ-loop
+least-usize-requires c κs = search needs
 
 divide-row-requires : tie.Need-divide-row-requires Inv-loop μ-loop
 divide-row-requires c κs =
@@ -32,7 +32,7 @@ divide-row-requires c κs =
 loop-holds : tie.Need-loop-holds Inv-loop μ-loop
 loop-holds c =
     let a = c .before .before .before .before .args in
-    let d = divided (a .real .now) (a .imaginary .now) (a .amplitude) (a .from) (c .before .before .least .result) _ _ (search needs) (search needs) (c .divide-row .ensures) in
+    let d = divided (a .real .now) (a .imaginary .now) (a .amplitude) (a .from) (c .before .before .least-usize .result) _ _ (search needs) (search needs) (c .divide-row .ensures) in
     (search needs, refl, divided-fewer _ _ _ _ (a .from + 0) _ _ _ d (omega arith) (omega arith), turns-start _ _, turns-start _ _)
 
 add-loop : tie.Need-add-loop Inv-loop μ-loop
@@ -107,7 +107,7 @@ sub-divide-row c = search needs
 
 divide-row-requires-2 : tie.Need-divide-row-requires-2 Inv-loop μ-loop
 divide-row-requires-2 c κs =
-    let first = c .before .before .before .before .before .before .before .before .before .before .least .result in
+    let first = c .before .before .before .before .before .before .before .before .before .before .least-usize .result in
     let p = c .before .before .before .before .before .before .before .before .before .before .before .before .pre .1 .1 .1 in
     let l = c .before .before .before .before .before .before .before .loop in (
       search needs,
@@ -125,7 +125,7 @@ add-write-row-2 c = search needs
 
 write-row-requires-2 : tie.Need-write-row-requires-2 Inv-loop μ-loop
 write-row-requires-2 c κs =
-    let first = c .before .before .before .before .before .before .before .before .before .before .before .before .before .least .result in
+    let first = c .before .before .before .before .before .before .before .before .before .before .before .before .before .least-usize .result in
     let a = c .before .before .before .before .before .before .before .before .before .before .before .before .before .before .before .args in
     let p = c .before .before .before .before .before .before .before .before .before .before .before .before .before .before .before .pre .1 .1 .1 in
     let l = c .before .before .before .before .before .before .before .before .before .before .loop in
@@ -144,7 +144,7 @@ returns c =
     let a = c .before .before .before .before .before .before .before .before .before .before .before .before .before .before .before .before .before .before .args in
     let l = c .before .before .before .before .before .before .before .before .before .before .before .before .before .loop in
     let v = l .inv in
-    let first = c .before .before .before .before .before .before .before .before .before .before .before .before .before .before .before .before .least .result in
+    let first = c .before .before .before .before .before .before .before .before .before .before .before .before .before .before .before .before .least-usize .result in
     let at = l .at + first in
     let d = divided (a .real .now) (a .imaginary .now) (a .amplitude) (a .from + at) (a .count - at) _ _ (omega arith) (v .2 .size) is-divide-row2 in
     let e : at + (a .count - at) ≡ a .count = omega arith in
@@ -159,7 +159,7 @@ write-run-spec =
     (tie.spec
     Inv-loop
     μ-loop
-    least-requires
+    least-usize-requires
     divide-row-requires
     loop-holds
     add-loop

@@ -3,9 +3,9 @@ use mathlib.Core.Path.{_≡_, refl}
 use Prim.Native.Nat.{_-_, _≤_}
 use lib.Ieee.{nan}
 use lib.ListN.{length}
-use Rattle.trellis.specs.Laws.{extend-is, priors-small}
-use Rattle.trellis.specs.Runs.{tiers, tiers-start, tiers-step}
-use Rattle.trellis.specs.Layout.{sweptOf}
+use Rattle.arrivals.specs.Laws.{extend-is, priors-small}
+use Rattle.arrivals.specs.Runs.{tiers, tiers-start, tiers-step}
+use Rattle.arrivals.specs.Layout.{sweptOf}
 use borrow.Author.Needs.{needs}
 use Rattle.trellis.proofs.step.extend.Statement.{statement}
 use Rattle.trellis.proofs.step.extend.Tie as tie

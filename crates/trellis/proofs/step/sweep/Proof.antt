@@ -2,7 +2,7 @@
 use mathlib.Core.Path.{ap, _∙_}
 use lib.ListN.{length}
 use Rattle.laws.specs.Places.{length-upto}
-use Rattle.trellis.specs.Laws.{sweep-is}
+use Rattle.arrivals.specs.Laws.{sweep-is}
 use borrow.Author.Needs.{needs}
 use Rattle.trellis.proofs.step.sweep.Statement.{statement}
 use Rattle.trellis.proofs.step.sweep.Tie as tie

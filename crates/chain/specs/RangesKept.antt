@@ -1,0 +1,46 @@
+-- Admitted in, admitted out: every value keeps the chain's ranges, since each stage keeps its own. Assumes nothing.
+use mathlib.Core.Path.{_≡_}
+use Prim.Native.Nat.{ℕ}
+use native.Mathlib.Omega.{arith}
+use mathlib.Core.List.{List}
+use lib.IntN.{ℤ}
+use lib.ListN.{length}
+use lib.Ieee.{Float}
+use Rattle.complex.specs.declared.Complex32.{Complex32}
+use Rattle.peak.specs.Peak as Peak
+use Rattle.clock.specs.Laws.{fresh-admitted}
+use Rattle.equalizer.specs.Equalizer as Equalizer
+use Rattle.complex.specs.Planes.{Planes}
+use Rattle.answers.specs.declared.soft.Soft.{Soft}
+use Rattle.sequence.specs.Sequence as Sequence
+use Rattle.lms_detector.specs.Ranges as Detector
+use Rattle.recovery.specs.declared.step.Found.{Found}
+use Rattle.recovery.specs.declared.step.Found.the-variants.{Nothing, Here}
+use Rattle.recovery.specs.Recovery as Recovery
+use Rattle.recovery.specs.Ranges as RecoveryRanges
+use Rattle.recovery.specs.Laws as RecoveryLaws
+use Rattle.decisions.specs.Decisions as Decisions
+use Rattle.decisions.specs.Ranges as DecisionsRanges
+use Rattle.decisions.specs.Laws.{decided-ranged}
+use Rattle.chain.specs.Chain.{freshPlace, ChainState, recoveryOf, decisionsOf, heardOf, steppedOf}
+use Rattle.chain.specs.Ranges.{Ranged}
+
+heard-ranged : (f : Found) (r : Recovery.RecoveryState) (d : Decisions.DecisionsState) (oldest : Soft) → RecoveryRanges.Ranged r → DecisionsRanges.Ranged d → Ranged (heardOf f r d oldest .state)
+unfolding heardOf
+heard-ranged Nothing r d oldest a b = record { recovery = a; decisions = b }
+heard-ranged (Here z reliable) r d oldest a b = record { recovery = a; decisions = decided-ranged d z reliable oldest b }
+
+pub stepped-ranged : (taps derivatives : List Float) (s : ChainState) (z : Complex32) (oldest : Soft) → Ranged s → Ranged (steppedOf taps derivatives s z oldest .state)
+unfolding steppedOf
+stepped-ranged taps derivatives s z oldest h =
+    let k = Recovery.steppedOf taps derivatives (recoveryOf s) z in
+    heard-ranged (k .found) (k .state) (decisionsOf s) oldest (RecoveryLaws.stepped-ranged taps derivatives (recoveryOf s) z (h .recovery)) (h .decisions)
+
+-- A FRESH CHAIN is in range, whatever its planes hold, where the detector's are
+pub fresh-ranged : (profile : ℤ) (keeper : Peak.Ring) (clock : Planes) (weights : Equalizer.Row) (channels : Planes) (costs : List Float) (parents : List ℕ) (view : Planes)
+    → length (keeper .real) ≡ 64 → length (keeper .imaginary) ≡ 64 → Detector.Ranged Sequence.freshPlace (channels .real) (channels .imaginary) costs parents
+    → Ranged (record { place = freshPlace profile; keeper = keeper; clock = clock; weights = weights; channels = channels; costs = costs; parents = parents; view = view })
+fresh-ranged profile keeper clock weights channels costs parents view r i d = record {
+  recovery = record { keeper = record { head = omega arith; fill = omega arith; real-size = r; imaginary-size = i }; clock = fresh-admitted };
+  decisions = record { carrier = record { alternation = omega arith; detector = d }; view = record { head = omega arith; count = omega arith }; locked = omega arith };
+}

@@ -1,0 +1,4 @@
+pub mod Stripes
+pub mod Channels
+pub mod Layout
+pub mod Laws

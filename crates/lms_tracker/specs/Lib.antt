@@ -1,0 +1,3 @@
+pub mod Tracker
+pub mod Layout
+pub mod Laws

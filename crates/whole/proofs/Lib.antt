@@ -1,0 +1,2 @@
+pub mod ToWhole
+pub mod Integers

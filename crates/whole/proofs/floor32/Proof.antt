@@ -1,0 +1,64 @@
+-- `whole::floor32` meets its contract: a value without digits below the point is whole, and every other one goes toward minus infinity. Assumes nothing.
+use mathlib.Core.Path.{_≡_, sym, ap, _∙_, subst}
+use mathlib.Core.Bool.{Bool}
+use Prim.Native.Nat.{ℕ, _^_, _≤_, _<_}
+use native.Mathlib.Omega.{arith}
+use lib.Dec.{T}
+use lib.Ieee.{Float, binary32, round, fits}
+use borrow.Author.Needs.{needs}
+use Rattle.whole.specs.Whole.{downward}
+use Rattle.whole.specs.Fractions.{fractionOf}
+use Rattle.whole.specs.declared.Fraction.the-variants.{Parts}
+use Rattle.whole.proofs.ToWhole.{down-is, down-le, made-nothing, made-parts, parts-bounded}
+use Rattle.whole.proofs.floor32.Statement.{statement}
+use Rattle.whole.proofs.floor32.Tie as tie
+
+held : (c : tie.Start) → T (fits binary32 (c .args .x))
+held c = subst T (sym (c .good .0 .1)) tt
+
+-- what the match learns
+module _ (c : tie.After-known-told) where
+  abbrev x : Float
+  x = let entry = c .before .before .before .before in entry .args .x
+
+  abbrev s : Bool
+  s = c .before .s .given .0 .0
+
+  abbrev d : ℕ
+  d = c .before .s .given .0 .1 .0
+
+  abbrev shift : ℕ
+  shift = c .before .s .given .0 .1 .1 .0
+
+  learnt : fractionOf binary32 x ≡ Parts s d shift
+  learnt = sym (c .before .before .before .split32 .ensures) ∙ c .before .s .given .1
+
+  fit : (d < 2 ^ 24) × (0 < shift)
+  fit = parts-bounded binary32 x s d shift learnt
+
+split32-requires : tie.Need-split32-requires
+split32-requires c κs = search needs
+
+enum-known-s : tie.Need-enum-known-s
+enum-known-s c = search needs
+
+enum-told : tie.Need-enum-told
+enum-told c = search needs
+
+returns : tie.Need-returns
+returns c = let a = c .before .before .before in made-nothing binary32 (a .args .x) downward down-is (held a) (sym (c .before .before .split32 .ensures) ∙ c .enum-told .given .1)
+
+shifted-down-requires : tie.Need-shifted-down-requires
+shifted-down-requires c κs = omega (arith, fit c .0)
+
+signed32-requires : tie.Need-signed32-requires
+signed32-requires c κs = subst (λ (n : ℕ). n ≤ 2 ^ 24) (sym (c .shifted-down .ensures)) (down-le binary32 (s (c .before)) (d (c .before)) (2 ^ shift (c .before)) (fit (c .before) .0))
+
+returns-2 : tie.Need-returns-2
+returns-2 c =
+    let k = c .before .before in
+    let a = k .before .before .before .before in
+    c .signed32 .ensures ∙ ap (λ (n : ℕ). round binary32 (s k) n 1) (c .before .shifted-down .ensures) ∙ made-parts binary32 (a .args .x) downward down-is (held a) (s k) (d k) (shift k) (learnt k)
+
+pub floor32-spec : {M : Type 1} → statement M
+floor32-spec = tie.close (tie.spec split32-requires enum-known-s enum-told returns shifted-down-requires signed32-requires returns-2)
