@@ -2,7 +2,7 @@
 use mathlib.Core.Path.{_≡_, refl, sym, ap, ap₂, _∙_, subst}
 use mathlib.Core.Logic.{_⊎_, inl, inr}
 use Prim.Native.Nat.{ℕ, _+_, _*_, _≤_, _<_, zero-le}
-use native.Mathlib.Nat.{le-trans, le-of-eq, le-of-lt, eq-or-lt-of-le, zero-mul, mul-le-mul-right, le-of-mul-le-mul-right}
+use native.Mathlib.Nat.{le-trans, le-of-eq, le-of-lt, not-le-of-lt, eq-or-lt-of-le, zero-mul, mul-le-mul-right, le-of-mul-le-mul-right}
 use native.Mathlib.Omega.{arith}
 use mathlib.Core.Bool.{Bool, true, false, not, _&&_, _||_, cond, true≢false}
 use lib.Dec.{T, ltb, eqb, eqb→eq, ltb→lt, lt→ltb, nltb→le}
@@ -233,6 +233,27 @@ total (fin true m e) (fin true n d) p q h = turned (m * up e * down d) (n * up d
         last : (t : Bool) → (t || true) ≡ true
         last true = refl
         last false = refl
+
+-- ---- below, and at most the other way, exclude each other
+below→ : (s : Bool) (a : ℕ) (t : Bool) (b : ℕ) → T (below s a t b) → cond s 0 a + cond t b 0 < cond t 0 b + cond s a 0
+below→ false a false b h = let l = ltb→lt a b h in omega arith
+below→ false a true b h = absurd h
+below→ true a false b h = let l = ltb→lt 0 (a + b) h in omega arith
+below→ true a true b h = let l = ltb→lt b a h in omega arith
+
+pub lt-clash : (x y : Float) → T (lt x y) → T (le y x) → ⊥
+unfolding lt le
+lt-clash nan y h k = h
+lt-clash (inf s) nan h k = k
+lt-clash (inf true) (inf true) h k = h
+lt-clash (inf true) (inf false) h k = k
+lt-clash (inf false) (inf t) h k = h
+lt-clash (inf true) (fin t n d) h k = k
+lt-clash (inf false) (fin t n d) h k = h
+lt-clash (fin s m e) nan h k = h
+lt-clash (fin s m e) (inf true) h k = h
+lt-clash (fin s m e) (inf false) h k = k
+lt-clash (fin s m e) (fin t n d) h k = not-le-of-lt (below→ s (m * up e * down d) t (n * up d * down e) h) (atMost→ t (n * up d * down e) s (m * up e * down d) k)
 
 -- ---- a comparison's outcome
 -- nothing lies below a NaN

@@ -10,7 +10,7 @@ use lib.Ieee.Fits.{and-l, and-r, down-pos}
 use lib.Ieee.Order.{round-mono}
 use lib.Ieee.Scale.{round-same}
 use lib.Ieee.Positive.{num, den, den-pos, positive}
-use Rattle.laws.specs.FloatOrder.{nonneg, le→cross}
+use Rattle.laws.specs.FloatOrder.{nonneg, le→cross, lt-clash}
 use Rattle.laws.specs.FloatRounding.{signed, round-signed}
 use Rattle.laws.specs.FloatValues.{round-least, round-most, id-nonneg}
 use Rattle.numbers.specs.Numbers.{convert}
@@ -18,7 +18,7 @@ use Rattle.numbers.specs.Root.{roundRoot, sqrtOf}
 use Rattle.numbers.specs.RootOrder.{root-above, root-below}
 use Rattle.numbers.specs.Faithful.{sqrt-is}
 use Rattle.routines.specs.Hypotenuse.{enclosesOf}
-use Rattle.routines.specs.Squares.{square-is, lt-clash, gt-clash, not-under, convert-up, convert-fits, sqrt-up}
+use Rattle.routines.specs.Squares.{square-is, not-under, convert-up, convert-fits, sqrt-up}
 
 -- ---- narrowing keeps the order, infinities included
 inf-most : (z : Float) → T (signed false z) → T (le z (inf false))
@@ -141,14 +141,14 @@ module _ (f : Format) (x s : Float) (X : T (nonneg x)) (S : T (positive s)) (F :
   root-over : T (lt (mul f x x) s) → T (le x (sqrtOf f s))
   root-over h =
       let l : T (lt sq s) = subst (λ (z : Float). T (lt z s)) (square-of f x X) h in
-      let k = not-under (num x * num x * den s) (num s * (den x * den x)) (λ m. gt-clash s sq N (round-signed false f _ _) l (round-least f (num x * num x) (den x * den x) s sq-pos N G m)) in
+      let k = not-under (num x * num x * den s) (num s * (den x * den x)) (λ m. lt-clash sq s l (round-least f (num x * num x) (den x * den x) s sq-pos N G m)) in
       subst (λ (z : Float). T (le x z)) (sym (sqrt-is f s S))
       (subst (λ (z : Float). T (le z (roundRoot f (num s) (den s)))) (id-nonneg f x X F) (root-above f (num x) (den x) (num s) (den s) (den-pos x) (den-pos s) (le-of-lt k)))
 
   root-under : T (lt s (mul f x x)) → T (le (sqrtOf f s) x)
   root-under h =
       let l : T (lt s sq) = subst (λ (z : Float). T (lt s z)) (square-of f x X) h in
-      let k = not-under (num s * (den x * den x)) (num x * num x * den s) (λ m. lt-clash s sq N (round-signed false f _ _) l (round-most f (num x * num x) (den x * den x) s sq-pos N G m)) in
+      let k = not-under (num s * (den x * den x)) (num x * num x * den s) (λ m. lt-clash s sq l (round-most f (num x * num x) (den x * den x) s sq-pos N G m)) in
       subst (λ (z : Float). T (le z x)) (sym (sqrt-is f s S))
       (subst (λ (z : Float). T (le (roundRoot f (num s) (den s)) z)) (id-nonneg f x X F) (root-below f (num x) (den x) (num s) (den s) (den-pos x) (den-pos s) (le-of-lt k)))
 

@@ -14,8 +14,8 @@ use lib.Ieee.Exact.{HasValue, round-exact}
 use lib.Ieee.Order.{transfer}
 use lib.Ieee.Scale.{round-same, finite}
 use lib.Ieee.Positive.{num, den, den-pos, value→cross}
-use Rattle.laws.specs.FloatOrder.{nonneg, le→cross}
-use Rattle.laws.specs.FloatRounding.{signed, round-signed}
+use Rattle.laws.specs.FloatOrder.{nonneg, le→cross, lt-clash}
+use Rattle.laws.specs.FloatRounding.{round-signed}
 use Rattle.laws.specs.FloatParts.{field, digitsOf, powerOf, finite-field, float-value, digits-lt}
 use Rattle.laws.specs.FloatValues.{round-least, round-most, no-inf, no-nan-fin}
 use Rattle.laws.specs.FloatSizes.{capped, nonneg-finite}
@@ -24,7 +24,7 @@ use Rattle.numbers.specs.Nearest.{Value}
 use Rattle.numbers.specs.Root.{sqrtOf}
 use Rattle.numbers.specs.Faithful.{root-under, root-over}
 use Rattle.routines.specs.Hypotenuse.{infinite, rootOfSquares, hypotenuseOf, squaresOver, squaresUnder, Between}
-use Rattle.routines.specs.Squares.{square-is, nonneg-of, lt-clash, gt-clash, not-under, convert-up, convert-fits, sqrt-up}
+use Rattle.routines.specs.Squares.{square-is, nonneg-of, not-under, convert-up, convert-fits, sqrt-up}
 
 -- ---- the square of a value of binary32 is a value of binary64
 poly : (a b d u P R : ℕ) → a * P ≡ d * u * b → a * a * (P * P * R) ≡ d * d * (u * u * R) * (b * b)
@@ -199,15 +199,11 @@ module _ (x y v : Float) (h : T (finite x)) (k : T (finite y)) (F : T (fits bina
       root-most v s N H (squares-nonneg x y h k F G)
       (transfer (num s) (num v * num v) (den s) (den v * den v) (num s) (num vv) (den s) (den vv) (den-pos s) (den-pos vv) refl (sym c) (le→cross s vv (squares-nonneg x y h k F G) n r))
 
-  result-up : T (signed false (rootOfSquares x y))
-  unfolding rootOfSquares
-  result-up = convert-up binary32 (sqrtOf binary64 (squares x y)) (sqrt-up binary64 (squares x y) (squares-nonneg x y h k F G))
-
   pub neighbour-below : T (lt v (rootOfSquares x y)) → num v * num v * squaresUnder x y < squaresOver x y * (den v * den v)
-  neighbour-below l = not-under (num v * num v * squaresUnder x y) (squaresOver x y * (den v * den v)) (λ m. lt-clash v (rootOfSquares x y) N result-up l (most m))
+  neighbour-below l = not-under (num v * num v * squaresUnder x y) (squaresOver x y * (den v * den v)) (λ m. lt-clash v (rootOfSquares x y) l (most m))
 
   pub neighbour-above : T (lt (rootOfSquares x y) v) → squaresOver x y * (den v * den v) < num v * num v * squaresUnder x y
-  neighbour-above l = not-under (squaresOver x y * (den v * den v)) (num v * num v * squaresUnder x y) (λ m. gt-clash v (rootOfSquares x y) N result-up l (least m))
+  neighbour-above l = not-under (squaresOver x y * (den v * den v)) (num v * num v * squaresUnder x y) (λ m. lt-clash (rootOfSquares x y) v l (least m))
 
 -- ---- the special cases
 pub or-true : (b : Bool) → (b || true) ≡ true

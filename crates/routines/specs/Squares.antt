@@ -1,15 +1,13 @@
--- What a comparison says where the values are not negative: `lt` and `le` exclude each other, narrowing and the root keep the sign, what is narrowed fits the format, and squares. Assumes nothing.
+-- What is known where the values are not negative: narrowing and the root keep the sign, what is narrowed fits the format, and squares. Assumes nothing.
 use mathlib.Core.Path.{_≡_, refl}
-use mathlib.Core.Logic.{inl, inr}
 use Prim.Native.Nat.{ℕ, zero, suc, _*_, _≤_, _<_}
-use native.Mathlib.Omega.{arith}
-use mathlib.Core.Bool.{Bool, true, false, not, _&&_, _||_, true≢false}
+use mathlib.Core.Bool.{Bool, true, false, not, true≢false}
 use lib.IntN.{ℤ}
-use lib.Dec.{T, ltb, eqb, ltb→lt, nltb→le, eqb→eq}
-use lib.Ieee.{Float, nan, inf, fin, Format, up, down, round, mul, lt, le, fits}
-use lib.Ieee.Fits.{and-l, round-fits, inf-fits}
+use lib.Dec.{T, ltb, ltb→lt, nltb→le}
+use lib.Ieee.{Float, nan, inf, fin, Format, up, down, round, mul, fits}
+use lib.Ieee.Fits.{round-fits, inf-fits}
 use lib.Ieee.Exact.{HasValue}
-use Rattle.laws.specs.FloatOrder.{nonneg, or-split}
+use Rattle.laws.specs.FloatOrder.{nonneg}
 use Rattle.laws.specs.FloatRounding.{signed, round-signed}
 use Rattle.numbers.specs.Numbers.{convert}
 use Rattle.numbers.specs.Root.{sqrtOf}
@@ -31,38 +29,6 @@ nonneg-signed nan p = absurd p
 nonneg-signed (inf s) p = absurd p
 nonneg-signed (fin true m e) p = absurd p
 nonneg-signed (fin false m e) p = tt
-
--- ---- lt and le of the other way exclude each other, for v finite and not negative
-clash : (a b : ℕ) → T (ltb a b) → T (ltb b a || (eqb b a && true)) → ⊥
-clash a b h k = elim (or-split (ltb b a) (eqb b a && true) k) [ inl u ↦ both (ltb→lt a b h) (ltb→lt b a u) | inr u ↦ same (ltb→lt a b h) (eqb→eq b a (and-l (eqb b a) true u)) ]
-  where
-    both : a < b → b < a → ⊥
-    both p q = omega arith
-
-    same : a < b → b ≡ a → ⊥
-    same p q = omega arith
-
-pub lt-clash : (v r : Float) → T (nonneg v) → T (signed false r) → T (lt v r) → T (le r v) → ⊥
-unfolding lt le
-lt-clash nan r p u h k = p
-lt-clash (inf s) r p u h k = p
-lt-clash (fin true m e) r p u h k = p
-lt-clash (fin false m e) nan p u h k = u
-lt-clash (fin false m e) (inf true) p u h k = u
-lt-clash (fin false m e) (inf false) p u h k = k
-lt-clash (fin false m e) (fin true n d) p u h k = u
-lt-clash (fin false m e) (fin false n d) p u h k = clash (m * up e * down d) (n * up d * down e) h k
-
-pub gt-clash : (v r : Float) → T (nonneg v) → T (signed false r) → T (lt r v) → T (le v r) → ⊥
-unfolding lt le
-gt-clash nan r p u h k = p
-gt-clash (inf s) r p u h k = p
-gt-clash (fin true m e) r p u h k = p
-gt-clash (fin false m e) nan p u h k = u
-gt-clash (fin false m e) (inf true) p u h k = u
-gt-clash (fin false m e) (inf false) p u h k = h
-gt-clash (fin false m e) (fin true n d) p u h k = u
-gt-clash (fin false m e) (fin false n d) p u h k = clash (n * up d * down e) (m * up e * down d) h k
 
 pub convert-up : (f : Format) (z : Float) → T (signed false z) → T (signed false (convert f z))
 unfolding convert
