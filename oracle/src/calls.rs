@@ -4,8 +4,9 @@
 use crate::admitted::{admitted, MOST_SAMPLES};
 use crate::helpers::{bits32, bits64};
 use crate::options::Options;
+use crate::overload::overloads;
 use crate::random_state::random_state;
-use crate::receive::{accepted, overloads, write_dibits};
+use crate::receive::{accepted, write_dibits};
 use crate::samples::SampleFile;
 use crate::state::State;
 use crate::{Complex32, Snapshot};

@@ -220,10 +220,17 @@ fn direct_and_echo(plan: &Plan, time: f64, stream: &Stream) -> Complex64 {
 fn finished(plan: &Plan, value: Complex64) -> Complex32 {
     let part = |x: f64| {
         let x = x * plan.amplitude;
-        plan.clip.map_or(x, |most| x.max(-most).min(most)) as f32
+        let x = plan.clip.map_or(x, |most| x.max(-most).min(most));
+        plan.bits.map_or(x, |bits| converted(x, bits)) as f32
     };
     Complex32 {
         real: part(value.real),
         imaginary: part(value.imaginary),
     }
+}
+
+/// What a converter of so many bits gives: from -1 up to one step below 1, in steps of 2 / 2^bits.
+fn converted(x: f64, bits: i32) -> f64 {
+    let steps = 2.0_f64.powi(bits - 1);
+    (x * steps).round().max(-steps).min(steps - 1.0) / steps
 }

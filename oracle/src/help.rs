@@ -14,6 +14,7 @@ SAMPLES is a sample file of document 01, STATE a dumped state, LIST a list of in
       a pi/4-DQPSK signal, the same on every machine:
       --rate HZ (48000)  --offset HZ (0)  --samples N (48000)  --seed N (1)  --profile P (0)
       --amplitude A (0.5)  --huge (1e30)  --tiny (1e-30)  --clip LEVEL
+      --bits N (what a converter of N bits gives: -1 up to a step below 1)
       --noise DEVIATION  --drift PPM  --echo SYMBOLS,GAIN,TURN  --fade HZ,DEPTH
       --neighbour HZ,GAIN,SAMPLES (off from then on)  --onset SAMPLES (the signal is on from then on)
       --sent FILE (the sent dibits, a line each)

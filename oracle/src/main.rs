@@ -39,6 +39,7 @@ mod made;
 mod numbers;
 mod options;
 mod oscillator_list;
+mod overload;
 mod plan;
 mod random;
 mod random_state;

@@ -2,7 +2,7 @@
 
 use crate::options::Options;
 
-const NAMES: [&str; 16] = [
+const NAMES: [&str; 17] = [
     "rate",
     "offset",
     "samples",
@@ -16,6 +16,7 @@ const NAMES: [&str; 16] = [
     "onset",
     "drift",
     "clip",
+    "bits",
     "huge",
     "tiny",
     "sent",
@@ -47,6 +48,8 @@ pub struct Plan {
     pub drift: f64,
     /// The largest size of a part.
     pub clip: Option<f64>,
+    /// The bits of the converter that the file's parts come from.
+    pub bits: Option<i32>,
 }
 
 impl Default for Plan {
@@ -65,6 +68,7 @@ impl Default for Plan {
             onset: 0,
             drift: 0.0,
             clip: None,
+            bits: None,
         }
     }
 }
@@ -93,6 +97,10 @@ impl Plan {
             Some(_) => Some(options.number("clip", 1.0)?),
             None => None,
         };
+        let bits = match options.text("bits") {
+            Some(_) => Some(options.number("bits", 16)?),
+            None => None,
+        };
         let plan = Self {
             rate: options.number("rate", usual.rate)?,
             offset: options.number("offset", usual.offset)?,
@@ -107,7 +115,11 @@ impl Plan {
             onset: options.number("onset", usual.onset)?,
             drift: options.number("drift", usual.drift)?,
             clip,
+            bits,
         };
+        if plan.bits.is_some_and(|bits| !(1..=24).contains(&bits)) {
+            return Err("--bits: 1 to 24, which an f32 holds".into());
+        }
         if plan.samples > u32::MAX as usize {
             return Err("--samples: at most 4,294,967,295".into());
         }

@@ -1,7 +1,7 @@
 //! The sample program of document 01, run by the upstream receiver. Refusals 1, 2 and 5 are the
 //! Rust's own errors; 3 and 8 are added here.
 
-use crate::dsp::Complex32;
+use crate::overload::overloads;
 use crate::receiver::Dsp;
 use crate::samples::{decoded, read_full, word32, word64};
 use crate::Snapshot;
@@ -124,10 +124,4 @@ pub fn write_dibits(dibits: &[u8], soft: &[[u8; 2]], output: &mut impl Write) ->
         writeln!(output, "{dibit} {first} {second}")?;
     }
     Ok(())
-}
-
-/// The samples with a part above 1 in size.
-pub fn overloads(iq: &[Complex32]) -> u64 {
-    let loud = |s: &&Complex32| s.real.abs() > 1.0 || s.imaginary.abs() > 1.0;
-    iq.iter().filter(loud).count() as u64
 }

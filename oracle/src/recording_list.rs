@@ -10,9 +10,11 @@
 //! setup or block, so it is admitted. 3 comes from a setup alone: what it accepts has room in the table.
 
 use crate::generator::generated;
+use crate::overload::around_the_ends;
 use crate::plan::Plan;
 use crate::receive::answered;
 use crate::samples::word64;
+use crate::Complex32;
 use std::io::{self, BufWriter, Read, Write};
 
 /// Where the count of samples and the first sample stand.
@@ -70,9 +72,8 @@ fn write_answers() -> Result<(), String> {
 fn recordings() -> Result<Vec<Recording>, String> {
     let short = signal("--rate 9600 --offset 599.5 --samples 3 --seed 3")?;
     let long = signal("--offset 1500 --samples 1025 --seed 5 --noise 0.02")?;
-    let heard = signal(
-        "--offset -7500 --samples 2500 --seed 7 --amplitude 0.7 --noise 0.02 --echo 0.5,0.3,0.2",
-    )?;
+    let line = "--offset -7500 --samples 2500 --seed 7 --amplitude 0.7 --noise 0.02 --echo 0.5,0.3,0.2";
+    let heard = signal(line)?;
     let mut all = vec![settings(2, MIDDLE, 0.0, 0), heard];
     all.extend(rates());
     all.extend(offsets());
@@ -81,7 +82,9 @@ fn recordings() -> Result<Vec<Recording>, String> {
     all.extend(cut(&short, &long));
     all.extend(too_long(&short, &long));
     all.extend(not_finite(&short, &long));
-    all.extend(loud(&short));
+    all.extend(overloads(&short));
+    // the signal as a 16-bit converter gives it, which clips
+    all.push(signal(&format!("{line} --bits 16"))?);
     Ok(all)
 }
 
@@ -223,19 +226,11 @@ fn not_finite(short: &[u8], long: &[u8]) -> Vec<Recording> {
     all
 }
 
-/// Overload: parts of size 1, just above it, and the largest there is.
-fn loud(short: &[u8]) -> Vec<Recording> {
-    let just = 1.0 + f32::EPSILON;
-    [
-        (1.0, -1.0),
-        (just, 0.0),
-        (0.0, -just),
-        (-just, just),
-        (f32::MAX, f32::MIN),
-    ]
-    .map(|(real, imaginary)| {
-        let sample = [real.to_le_bytes(), imaginary.to_le_bytes()].concat();
+/// A first sample that tells whether overload is counted right.
+fn overloads(short: &[u8]) -> Vec<Recording> {
+    let first = |(s, _): (Complex32, u64)| {
+        let sample = [s.real.to_le_bytes(), s.imaginary.to_le_bytes()].concat();
         with(short, FIRST, &sample)
-    })
-    .into()
+    };
+    around_the_ends().into_iter().map(first).collect()
 }

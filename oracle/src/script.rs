@@ -22,7 +22,8 @@
 use crate::admitted::{admitted, MOST_SAMPLES};
 use crate::helpers::{bits32, bits64};
 use crate::list::folded;
-use crate::receive::{accepted, overloads};
+use crate::overload::overloads;
+use crate::receive::accepted;
 use crate::samples::{read_full, word64};
 use crate::state::State;
 use crate::{Complex32, Snapshot};

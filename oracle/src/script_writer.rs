@@ -2,6 +2,7 @@
 //! comparison at scale.
 
 use crate::generator::generated;
+use crate::overload::around_the_ends;
 use crate::plan::Plan;
 use crate::random::Random;
 use crate::random_state::random_state;
@@ -125,6 +126,7 @@ fn edges(s: &mut Script) {
     setups(s);
     refusals(s);
     lengths(s);
+    overloads(s);
     clauses(s);
     for line in [
         "--rate 48000 --samples 3000 --noise 0.05",
@@ -229,8 +231,8 @@ fn lengths(s: &mut Script) {
             s.block(&floats, Rooms::exact(100));
         }
     }
-    for loud in [1.0_f32, 1.000_000_1, -1.0, -1.000_000_1, f32::MAX, -0.0, 1e-45] {
-        s.block(&[loud, 0.0, 0.0, loud, loud, loud], Rooms::exact(6));
+    for tiny in [-0.0_f32, 1e-45] {
+        s.block(&[tiny, 0.0, 0.0, tiny, tiny, tiny], Rooms::exact(6));
     }
     s.noise(131_072, Rooms::exact(131_072), 7, 1.5);
     s.read(2048);
@@ -243,6 +245,14 @@ fn lengths(s: &mut Script) {
         s.set_up(48000.0, 0.0, 0, AMPLE);
         s.word(0, (1 << 52) - total);
         s.noise(floats, Rooms::exact(floats), 9, 1.0);
+    }
+}
+
+/// A block for each sample that tells whether overload is counted right.
+fn overloads(s: &mut Script) {
+    s.set_up(48000.0, -100.0, 0, AMPLE);
+    for (sample, _) in around_the_ends() {
+        s.block(&flat(&[sample]), Rooms::exact(2));
     }
 }
 
@@ -405,6 +415,9 @@ fn random_plan(random: &mut Random, seed: u64) -> Plan {
     }
     if unit() < 0.2 {
         plan.clip = Some(0.5 * plan.amplitude);
+    }
+    if unit() < 0.3 {
+        plan.bits = Some(16);
     }
     plan
 }

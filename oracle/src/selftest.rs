@@ -1,6 +1,6 @@
 //! The oracle's test of itself: clean signals are received right, the hand-driven stages give what
-//! the upstream's own run gives, states survive dump and load, admitted states stay admitted, and
-//! the five routines are as near the machine's as document 01 asks.
+//! the upstream's own run gives, states survive dump and load, admitted states stay admitted, the
+//! five routines are as near the machine's as document 01 asks, and overload is counted by its table.
 
 use crate::admitted::admitted;
 use crate::calls::block;
@@ -12,7 +12,7 @@ use crate::state::State;
 use crate::table::unmet;
 use crate::trace::{traced, Decision};
 use crate::trellis::{first_cheapest, raw_costs};
-use crate::{accuracy, Complex32};
+use crate::{accuracy, overload, Complex32};
 
 /// What was found, or what failed.
 pub type Verdict = Result<String, String>;
@@ -52,6 +52,7 @@ pub fn run(words: &[&str]) -> Result<(), String> {
         report(format!("dump and load midway, {channel}"), midway(&plan));
     }
     report("document 01's numbers".into(), numbers_to_meet());
+    report("overload".into(), overload::tested());
     report("random states".into(), random_states(states));
     report("raw costs".into(), raw_costs_agree());
     report("sine and cosine".into(), accuracy::circle());

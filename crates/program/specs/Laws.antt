@@ -1,15 +1,14 @@
 -- A block's answer from what decoding, the receiver and the lines give; the closing lines from the snapshot; how much of
 -- each there can be. Assumes nothing.
 use mathlib.Core.Path.{_≡_, refl, sym, ap, _∙_}
-use mathlib.Core.Bool.{Bool, true, false, cond, _||_}
+use mathlib.Core.Bool.{Bool, true, false, cond}
 use mathlib.Core.List.{List, _++_}
-use Prim.Native.Nat.{ℕ, zero, suc, _+_, _*_, _/_, _≤_}
+use Prim.Native.Nat.{ℕ, _+_, _*_, _/_, _≤_}
 use native.Mathlib.Omega.{arith}
 use lib.Dec.{eqb, ltb}
 use lib.ListN.{length, take, replicate, length-take}
 use lib.Seq.{take-append-seam}
-use lib.Ieee.{Float}
-use Rattle.laws.specs.Turns.{turns}
+use lib.Ieee.{Float, nan}
 use Rattle.laws.specs.Places.{length-upto}
 use Rattle.chain.specs.declared.ChainPlace.{ChainPlace}
 use Rattle.receiver_state.specs.declared.state.Receiver.{Receiver}
@@ -17,7 +16,8 @@ use Rattle.receiver_state.specs.declared.state.Snapshot.{Snapshot}
 use Rattle.receiver.specs.declared.block.Block.{Block}
 use Rattle.receiver_state.specs.State.{snapshotOf, flagOf}
 use Rattle.checks.specs.Refusal.{numberOf}
-use Rattle.samples.specs.Samples.{realOf, imaginaryOf, isAbove, overloadTurn, overloadOf}
+use Rattle.samples.specs.Samples.{isAtEnd, overloadOf}
+use Rattle.samples.specs.Laws.{samples-most}
 use Rattle.checks.specs.Checks.{statedOf}
 use Rattle.receiver.specs.Admitted.{judgedOf}
 use Rattle.receiver.specs.Block.{Outcome, outcomeNow, acceptedOf, refusedOf, blockOf}
@@ -64,18 +64,9 @@ pub lines-most : (n k end : ℕ) → k ≤ 2 * n → end ≤ 0 + 12 * k → end 
 lines-most n k end h e = omega arith
 
 -- at most one overload a sample
-flag-most : (b : Bool) → cond b 1 0 ≤ 1
-flag-most true = omega arith
-flag-most false = omega arith
-
-overload-turns : (xs : List Float) (n : ℕ) → turns (overloadTurn xs) n 0 ≤ n
-unfolding turns
-overload-turns xs zero = omega arith
-overload-turns xs (suc n) = let h = overload-turns xs n in let k = flag-most (isAbove (realOf xs n) || isAbove (imaginaryOf xs n)) in omega arith
-
 judged-few : (b : Bool) (xs : List Float) → cond b (overloadOf xs) 0 ≤ length xs / 2
 unfolding overloadOf
-judged-few true xs = overload-turns xs (length xs / 2)
+judged-few true xs = samples-most isAtEnd nan xs
 judged-few false xs = omega arith
 
 outcome-few : (b : Bool) (x y : Outcome) (m : ℕ) → x .overload ≤ m → y .overload ≤ m → cond b x y .overload ≤ m

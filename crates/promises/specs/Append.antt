@@ -18,7 +18,7 @@ use Rattle.chain.specs.Chain.{ChainState}
 use Rattle.chain.specs.Rows.{dibitsOf, pairOf, recordsAfter, Told, start, slotAt, nextOf, told, ranOf, chainOf}
 use Rattle.chain.specs.RowLaws.{ran-profile, ran-append}
 use Rattle.receiver_state.specs.declared.state.Receiver.{Receiver}
-use Rattle.samples.specs.Samples.{countOf, realOf, imaginaryOf, finiteOf, isAbove, overloadOf}
+use Rattle.samples.specs.Samples.{countOf, realOf, imaginaryOf, finiteOf, tallied, samplesWith, isAtEnd, overloadOf}
 use Rattle.run.specs.Run.{wholeRunOf}
 use Rattle.receiver.specs.Block.{startOf, receiverOf}
 use Rattle.promises.specs.Deliveries.{Delivery, deliveryOf, deliveries, deliveriesOf, afterOf}
@@ -83,10 +83,10 @@ module _ (xs ys : List Float) (even : length xs ≡ 2 * countOf xs) where
       ∙ and-from (λ (k : ℕ). isFinite (realOf ys k) && isFinite (imaginaryOf ys k)) (countOf ys) (finiteOf xs)
 
   pub overload-append : overloadOf (xs ++ ys) ≡ overloadOf xs + overloadOf ys
-  unfolding overloadOf
+  unfolding overloadOf samplesWith
   overload-append =
-      over-append xs ys even (λ (n : ℕ) (z : Complex32). n + cond (isAbove (z .real) || isAbove (z .imaginary)) 1 0) 0
-      ∙ sum-from (λ (k : ℕ). cond (isAbove (realOf ys k) || isAbove (imaginaryOf ys k)) 1 0) (countOf ys) (overloadOf xs)
+      over-append xs ys even (λ (n : ℕ) (z : Complex32). tallied isAtEnd n (z .real) (z .imaginary)) 0
+      ∙ sum-from (λ (k : ℕ). cond (isAtEnd (realOf ys k) || isAtEnd (imaginaryOf ys k)) 1 0) (countOf ys) (overloadOf xs)
 
 -- ---- the front
 module _ (conjugated : Bool) (table : List Float) where

@@ -9,7 +9,7 @@ use Rattle.laws.specs.Turns.{turns}
 use Rattle.front.specs.Front as front
 use Rattle.chain.specs.Rows.{ranOf, chainOf}
 use Rattle.receiver_state.specs.declared.state.Receiver.{Receiver}
-use Rattle.samples.specs.Samples.{countOf, overloadOf}
+use Rattle.samples.specs.Samples.{countOf, samplesWith, overloadOf}
 use Rattle.run.specs.Run.{wholeRunOf}
 use Rattle.receiver.specs.Block.{startOf, receiverOf, Outcome, blockOf}
 use Rattle.promises.specs.Deliveries.{deliveries, dibitsIn, bytesIn, deliveriesOf, afterOf, outcomeOf, dibits-append, bytes-append, accepted-is}
@@ -63,7 +63,7 @@ bySamples r table xs = record {
 }
 
 session-of-none : (r : Receiver) (table : List Float) → sessionOf r table [] ≡ bySamples r table []
-unfolding afterOf wholeRunOf chainOf ranOf deliveriesOf deliveries overloadOf front.frontOf turns
+unfolding afterOf wholeRunOf chainOf ranOf deliveriesOf deliveries overloadOf samplesWith front.frontOf turns
 session-of-none r table =
     let e : r .total ≡ r .total + 0 = omega arith in
     λ i. record { receiver = receiverOf (e i) (startOf r [] []); count = 0; overload = 0; dibits = []; reliabilities = [] }

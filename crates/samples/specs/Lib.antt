@@ -1,2 +1,3 @@
 pub mod Samples
-pub mod Loud
+pub mod Laws
+pub mod Inside

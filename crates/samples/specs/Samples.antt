@@ -3,10 +3,10 @@ use Prim.Native.Nat.{ℕ, _+_, _*_, _/_}
 use mathlib.Core.Bool.{Bool, true, false, cond, _&&_, _||_}
 use mathlib.Core.List.{List}
 use lib.ListN.{length, getD}
-use lib.Ieee.{Float, nan, lt}
+use lib.Ieee.{Float, binary32, nan, ofBits, le}
 use Rattle.laws.specs.Turns.{turns}
-use Rattle.numbers.specs.Constants.{one32}
-use Rattle.numbers.specs.Numbers.{absOf, isFinite}
+use Rattle.numbers.specs.Constants.{minusOne32}
+use Rattle.numbers.specs.Numbers.{isFinite}
 use Rattle.samples.specs.declared.Level.{Level}
 
 abbrev pub countOf : List Float → ℕ
@@ -28,15 +28,31 @@ finiteTurn xs k before = stillFinite before (realOf xs k) (imaginaryOf xs k)
 unfoldable pub finiteOf : List Float → Bool
 finiteOf xs = turns (finiteTurn xs) (countOf xs) true
 
--- ---- overload: the number of samples with a part above 1 in size
-unfoldable pub isAbove : Float → Bool
-isAbove x = lt one32 (absOf x)
+-- ---- the number of samples with a part that passes a test, for parts of any kind: floats, or a converter's codes
+module _ {A : Type 0} (test : A → Bool) where
+  -- one sample more; it counts once, also where both parts pass
+  abbrev pub tallied : ℕ → A → A → ℕ
+  tallied n real imaginary = n + cond (test real || test imaginary) 1 0
 
-abbrev pub overloadTurn : List Float → ℕ → ℕ → ℕ
-overloadTurn xs k n = n + cond (isAbove (realOf xs k) || isAbove (imaginaryOf xs k)) 1 0
+  -- `outside` stands for a part past the list's end, and there is none among the samples
+  abbrev pub tallyTurn : A → List A → ℕ → ℕ → ℕ
+  tallyTurn outside xs k n = tallied n (getD xs (2 * k) outside) (getD xs (2 * k + 1) outside)
+
+  unfoldable pub samplesWith : A → List A → ℕ
+  samplesWith outside xs = turns (tallyTurn outside xs) (length xs / 2) 0
+
+-- ---- overload: the number of samples with a part at an end of what a 16-bit converter gives, or beyond it
+abbrev pub upperEnd : Float
+upperEnd = ofBits binary32 0x3f7f_fe00  -- 32767/32768
+
+abbrev pub lowerEnd : Float
+lowerEnd = minusOne32
+
+unfoldable pub isAtEnd : Float → Bool
+isAtEnd x = le upperEnd x || le x lowerEnd
 
 unfoldable pub overloadOf : List Float → ℕ
-overloadOf xs = turns (overloadTurn xs) (countOf xs) 0
+overloadOf xs = samplesWith isAtEnd nan xs
 
 unfoldable pub measuredOf : List Float → Level
 measuredOf xs = cond (finiteOf xs) (record { finite = true; overload = overloadOf xs }) (record { finite = false; overload = 0 })

@@ -1,0 +1,25 @@
+-- `tally` meets its contract: one more where a part is at an end.
+use native.Mathlib.Nat.{add-zero}
+use mathlib.Core.Path.{refl, sym}
+use borrow.Author.Needs.{needs}
+use Rattle.samples.proofs.tally.Statement.{statement}
+use Rattle.samples.proofs.tally.Tie as tie
+
+is-at-end-requires : tie.Need-is-at-end-requires
+is-at-end-requires c κs = search needs
+
+is-at-end-requires-2 : tie.Need-is-at-end-requires-2
+is-at-end-requires-2 c κs = search needs
+
+add-result : tie.Need-add-result
+add-result c = search needs
+
+returns : tie.Need-returns
+returns c = (rw (← c .before .before .is-at-end .ensures, ← c .before .is-at-end2 .ensures, c .if1 .taken) refl, search needs)
+
+returns-2 : tie.Need-returns-2
+returns-2 c = (rw (← c .before .before .is-at-end .ensures, ← c .before .is-at-end2 .ensures, c .if1 .left) (sym (add-zero _)), search needs)
+
+pub tally-spec : {M : Type 1} → statement M
+tally-spec =
+    tie.close (tie.spec is-at-end-requires is-at-end-requires-2 add-result returns returns-2)

@@ -1,0 +1,40 @@
+-- A count of samples, over every test and every kind of part: at most all of them, and none where no part passes. Assumes nothing.
+use mathlib.Core.Path.{_≡_, refl}
+use mathlib.Core.Bool.{Bool, true, false, cond, _||_}
+use mathlib.Core.List.{List}
+use Prim.Native.Nat.{ℕ, zero, suc, _+_, _*_, _/_, _≤_, _<_}
+use native.Mathlib.Omega.{arith}
+use lib.ListN.{length, getD}
+use Rattle.laws.specs.Turns.{turns}
+use Rattle.samples.specs.Samples.{samplesWith}
+
+-- ---- the places that pass
+abbrev passing : (ℕ → Bool) → ℕ → ℕ
+passing g n = turns (λ (k s : ℕ). s + cond (g k) 1 0) n 0
+
+flag-most : (b : Bool) → cond b 1 0 ≤ 1
+flag-most true = omega arith
+flag-most false = omega arith
+
+passing-most : (g : ℕ → Bool) (n : ℕ) → passing g n ≤ n
+unfolding turns
+passing-most g zero = omega arith
+passing-most g (suc n) = let h = passing-most g n in let k = flag-most (g n) in omega arith
+
+passing-none : (g : ℕ → Bool) (n : ℕ) → ((k : ℕ) → k < n → g k ≡ false) → passing g n ≡ 0
+unfolding turns
+passing-none g zero h = refl
+passing-none g (suc n) h = rw (passing-none g n (λ k l. h k (omega arith)), h n (omega arith))
+
+-- ---- the samples with a part that passes
+module _ {A : Type 0} (test : A → Bool) (outside : A) (xs : List A) where
+  abbrev either : ℕ → Bool
+  either k = test (getD xs (2 * k) outside) || test (getD xs (2 * k + 1) outside)
+
+  pub samples-most : samplesWith test outside xs ≤ length xs / 2
+  unfolding samplesWith
+  samples-most = passing-most either (length xs / 2)
+
+  pub samples-none : ((k : ℕ) → k < length xs → test (getD xs k outside) ≡ false) → samplesWith test outside xs ≡ 0
+  unfolding samplesWith
+  samples-none h = passing-none either (length xs / 2) (λ k l. rw (h (2 * k) (omega arith), h (2 * k + 1) (omega arith)))
