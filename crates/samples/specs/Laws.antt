@@ -1,12 +1,21 @@
--- A count of samples, over every test and every kind of part: at most all of them, and none where no part passes. Assumes nothing.
-use mathlib.Core.Path.{_≡_, refl}
+-- A count of samples, over every test and every kind of part: its step where the tests' outcomes are known; at most all samples; none where no part passes. Assumes nothing.
+use mathlib.Core.Path.{_≡_, refl, sym}
 use mathlib.Core.Bool.{Bool, true, false, cond, _||_}
 use mathlib.Core.List.{List}
 use Prim.Native.Nat.{ℕ, zero, suc, _+_, _*_, _/_, _≤_, _<_}
+use native.Mathlib.Nat.{add-zero}
 use native.Mathlib.Omega.{arith}
 use lib.ListN.{length, getD}
 use Rattle.laws.specs.Turns.{turns}
-use Rattle.samples.specs.Samples.{samplesWith}
+use Rattle.samples.specs.Samples.{tallied, samplesWith}
+
+-- ---- one sample
+module _ {A : Type 0} (test : A → Bool) (n : ℕ) (real imaginary : A) (a b : Bool) (p : a ≡ test real) (q : b ≡ test imaginary) where
+  pub tally-more : (a || b) ≡ true → n + 1 ≡ tallied test n real imaginary
+  tally-more h = rw (← p, ← q, h)
+
+  pub tally-same : (a || b) ≡ false → n ≡ tallied test n real imaginary
+  tally-same h = rw (← p, ← q, h) (sym (add-zero n))
 
 -- ---- the places that pass
 abbrev passing : (ℕ → Bool) → ℕ → ℕ

@@ -1,6 +1,6 @@
 -- `tally` meets its contract: one more where a part is at an end.
-use native.Mathlib.Nat.{add-zero}
-use mathlib.Core.Path.{refl, sym}
+use Rattle.samples.specs.Samples.{isAtEnd}
+use Rattle.samples.specs.Laws.{tally-more, tally-same}
 use borrow.Author.Needs.{needs}
 use Rattle.samples.proofs.tally.Statement.{statement}
 use Rattle.samples.proofs.tally.Tie as tie
@@ -15,10 +15,10 @@ add-result : tie.Need-add-result
 add-result c = search needs
 
 returns : tie.Need-returns
-returns c = (rw (← c .before .before .is-at-end .ensures, ← c .before .is-at-end2 .ensures, c .if1 .taken) refl, search needs)
+returns c = (tally-more isAtEnd _ _ _ _ _ (c .before .before .is-at-end .ensures) (c .before .is-at-end2 .ensures) (c .if1 .taken), search needs)
 
 returns-2 : tie.Need-returns-2
-returns-2 c = (rw (← c .before .before .is-at-end .ensures, ← c .before .is-at-end2 .ensures, c .if1 .left) (sym (add-zero _)), search needs)
+returns-2 c = (tally-same isAtEnd _ _ _ _ _ (c .before .before .is-at-end .ensures) (c .before .is-at-end2 .ensures) (c .if1 .left), search needs)
 
 pub tally-spec : {M : Type 1} → statement M
 tally-spec =
