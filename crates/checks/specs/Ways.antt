@@ -10,7 +10,7 @@ use lib.ListN.{length}
 use lib.Ieee.{Float, nan, inf, fin, ofBits, lt}
 use lib.Ieee.Scale.{finite}
 use borrow.Author.Tests.{lt-ltb, le-ltb, ltb-false, eqb-false}
-use Rattle.laws.specs.Branches.{or-false}
+use Rattle.laws.specs.Branches.{or-false, from-false}
 use Rattle.laws.specs.Ring.{lt-or-ge}
 use Rattle.laws.specs.FloatOrder.{not-lt→le}
 use Rattle.numbers.specs.Numbers.{isFinite}
@@ -26,10 +26,6 @@ use Rattle.checks.specs.Fits.{fits-from}
 use Rattle.checks.specs.Checks.{rateRefused, countRefused, roomRefused, refusedBy, judgedNow, laterOf, statedOf}
 
 -- ---- the rate
-is-not : (b : Bool) → b ≡ false → T (not b)
-is-not true h = absurd (true≢false h)
-is-not false h = tt
-
 finite-of : (x : Float) → not (isFinite x) ≡ false → T (finite x)
 unfolding isFinite
 finite-of nan h = absurd (true≢false h)
@@ -45,8 +41,8 @@ rate-admitted rate b e f =
     let F = finite-of rate (o .0) in
     record {
       range = record {
-        lower = not-lt→le rate lowestRate F tt (is-not (lt rate lowestRate) (p .0));
-        upper = not-lt→le highestRate rate tt F (is-not (lt highestRate rate) (p .1));
+        lower = not-lt→le rate lowestRate F tt (from-false (lt rate lowestRate) (p .0));
+        upper = not-lt→le highestRate rate tt F (from-false (lt highestRate rate) (p .1));
       };
     }
 

@@ -12,6 +12,7 @@ use lib.Ieee.Fits.{down-pos}
 use borrow.Author.Tests.{le-ltb, le-leb, lt-leb}
 use Rattle.numbers.specs.Constants.{zero32}
 use Rattle.laws.specs.Turns.{until, until-stop, until-turn}
+use Rattle.laws.specs.Branches.{from-true, from-false}
 use Rattle.laws.specs.FloatOrder.{le→, →le, lt→le, not-lt→le}
 use Rattle.laws.specs.FloatSums.{In, in-finite, add-in, sub-in, in-wider}
 use Rattle.clock.specs.declared.phase.Arm.{Arm}
@@ -83,12 +84,6 @@ same-as p arm ahead s t q e a b r = record {
 }
 
 -- ---- a comparison that holds is not of a NaN
-T-is : (b : Bool) → b ≡ true → T b
-T-is b h = rw h tt
-
-not-is : (b : Bool) → b ≡ false → T (not b)
-not-is b h = rw h tt
-
 lt-not-nan : (p y : Float) → lt p y ≡ true → p ≡ nan → ⊥
 unfolding lt
 lt-not-nan p y h e = true≢false (sym h ∙ ap (λ (z : Float). lt z y) e)
@@ -108,7 +103,7 @@ in-of p (inr i) h = i
 
 from0 : (p : Float) → In minus16 f48 p → lt p zero32 ≡ false → In zero32 f48 p
 unfolding ofBits
-from0 p i h = record { lower = not-lt→le p zero32 (in-finite minus16 f48 p tt tt i) tt (not-is (lt p zero32) h); upper = i .upper }
+from0 p i h = record { lower = not-lt→le p zero32 (in-finite minus16 f48 p tt tt i) tt (from-false (lt p zero32) h); upper = i .upper }
 
 -- ---- 0 to 32
 pub middle-in : (p : Float) → PhaseFits p → lt p zero32 ≡ false → lt p thirtyTwo ≡ true → In zero32 f48 p
@@ -117,16 +112,16 @@ middle-in p r h k = from0 p (in-of p r (lt-not-nan p thirtyTwo k)) h
 pub same-middle : (p : Float) (w : ℕ) → PhaseFits p → lt p zero32 ≡ false → lt p thirtyTwo ≡ true → w ≡ toUnsigned 64 p → Same p w 1 (turningOf p)
 same-middle p w r h k e =
     let i = middle-in p r h k in
-    let m = middle-from p (not-is (lt p zero32) h) (T-is (lt p thirtyTwo) k) w e in
+    let m = middle-from p (from-false (lt p zero32) h) (from-true (lt p thirtyTwo) k) w e in
     same-as p w 1 (pos 0) (turningOf p) (ranged-middle p w (m .arm) (m .most)) refl (m .most) (omega arith)
-    (inr (record { lower = i .lower; upper = lt→le p thirtyTwo (T-is (lt p thirtyTwo) k) }))
+    (inr (record { lower = i .lower; upper = lt→le p thirtyTwo (from-true (lt p thirtyTwo) k) }))
 
 -- ---- 32 and up
 pub high-in : (p : Float) → PhaseFits p → lt p zero32 ≡ false → le thirtyTwo p ≡ true → In zero32 f48 p
 high-in p r h k = from0 p (in-of p r (le-not-nan thirtyTwo p k)) h
 
 pub high-is : (p : Float) (w : ℕ) → PhaseFits p → le thirtyTwo p ≡ true → w ≡ toUnsigned 64 p → High p w
-high-is p w r k e = high-from p (in-of p r (le-not-nan thirtyTwo p k)) (T-is (le thirtyTwo p) k) w e
+high-is p w r k e = high-from p (in-of p r (le-not-nan thirtyTwo p k)) (from-true (le thirtyTwo p) k) w e
 
 pub same-high : (p : Float) (w : ℕ) → PhaseFits p → le thirtyTwo p ≡ true → w ≡ toUnsigned 64 p → Same (sub binary32 p thirtyTwo) (w - 32) 2 (turningOf p)
 unfolding ofBits sub le
@@ -135,7 +130,7 @@ same-high p w r k e =
     let u = high-is p w r k e in
     let l = u .least in
     let g = u .most in
-    let n : In thirtyTwo f48 p = record { lower = T-is (le thirtyTwo p) k; upper = i .upper } in
+    let n : In thirtyTwo f48 p = record { lower = from-true (le thirtyTwo p) k; upper = i .upper } in
     let a : In thirtyTwo thirtyTwo thirtyTwo = record { lower = tt; upper = tt } in
     same-as (sub binary32 p thirtyTwo) (w - 32) 2 (pos 1) (turningOf p) (ranged-high p w (u .arm) l (omega arith)) refl (omega arith) (omega arith)
     (inr (in-wider (sub binary32 thirtyTwo thirtyTwo) (sub binary32 f48 thirtyTwo) zero32 thirtyTwo tt tt tt tt (sub-in binary32 thirtyTwo f48 thirtyTwo thirtyTwo tt tt n a)))
@@ -146,7 +141,7 @@ unfolding lt neg ofBits
 neg-in p (inl e) h = absurd (lt-not-nan p zero32 h e)
 neg-in nan (inr i) h = absurd (in-finite minus16 f48 nan tt tt i)
 neg-in (inf s) (inr i) h = absurd (in-finite minus16 f48 (inf s) tt tt i)
-neg-in (fin false m e) (inr i) h = absurd (go (m * up e) (ltb→lt (m * up e * 1) (0 * up (pos 0) * down e) (T-is (lt (fin false m e) zero32) h)))
+neg-in (fin false m e) (inr i) h = absurd (go (m * up e) (ltb→lt (m * up e * 1) (0 * up (pos 0) * down e) (from-true (lt (fin false m e) zero32) h)))
   where
     go : (a : ℕ) → a * 1 < 0 * up (pos 0) * down e → ⊥
     go a k = omega arith
@@ -167,7 +162,7 @@ unfolding lt neg ofBits
 low-arm p c h (inl e) k = absurd (lt-not-nan p zero32 h e)
 low-arm nan c h (inr i) k = absurd (in-finite minus16 f48 nan tt tt i)
 low-arm (inf s) c h (inr i) k = absurd (in-finite minus16 f48 (inf s) tt tt i)
-low-arm (fin false m d) c h (inr i) k = absurd (go (m * up d) (ltb→lt (m * up d * 1) (0 * up (pos 0) * down d) (T-is (lt (fin false m d) zero32) h)))
+low-arm (fin false m d) c h (inr i) k = absurd (go (m * up d) (ltb→lt (m * up d * 1) (0 * up (pos 0) * down d) (from-true (lt (fin false m d) zero32) h)))
   where
     go : (a : ℕ) → a * 1 < 0 * up (pos 0) * down d → ⊥
     go a k = omega arith
@@ -177,7 +172,7 @@ low-arm (fin true m d) c h (inr i) k = (k .arm, some c (k .reached))
     above a k = omega arith
 
     some : (c : ℕ) → m * up d ≤ c * down d → 1 ≤ c
-    some zero r = let a = above (m * up d) (ltb→lt 0 (m * up d * 1 + 0 * up (pos 0) * down d) (T-is (lt (fin true m d) zero32) h)) in absurd (omega arith)
+    some zero r = let a = above (m * up d) (ltb→lt 0 (m * up d * 1 + 0 * up (pos 0) * down d) (from-true (lt (fin true m d) zero32) h)) in absurd (omega arith)
     some (suc c) r = omega arith
 
 neg-suc : (c : ℕ) → 1 ≤ c → negℤ (pos c) ≡ negsuc (c - 1)
@@ -192,7 +187,7 @@ same-low p c r h k =
     let l = g .1 in
     let u = k .most in
     let s : 31 - (c - 1) ≡ 32 - c = omega arith in
-    let n : In minus16 zero32 p = record { lower = i .lower; upper = lt→le p zero32 (T-is (lt p zero32) h) } in
+    let n : In minus16 zero32 p = record { lower = i .lower; upper = lt→le p zero32 (from-true (lt p zero32) h) } in
     let a : In thirtyTwo thirtyTwo thirtyTwo = record { lower = tt; upper = tt } in
     same-as (add binary32 p thirtyTwo) (32 - c) 0 (negsuc 0) (turningOf p)
     (ranged-low p (c - 1) (g .0 ∙ neg-suc c l) (omega arith) ∙ ap (λ (z : ℕ). at (add binary32 p thirtyTwo) (pos z) (negsuc 0)) s) refl (omega arith) (omega arith)
@@ -201,7 +196,7 @@ same-low p c r h k =
 -- ---- NaN
 pub same-nan : (p : Float) → PhaseFits p → lt p thirtyTwo ≡ false → le thirtyTwo p ≡ false → Same p 0 1 (turningOf p)
 unfolding ofBits
-same-nan p (inr i) h k = absurd (true≢false (sym (is-true (le thirtyTwo p) (not-lt→le p thirtyTwo (in-finite minus16 f48 p tt tt i) tt (not-is (lt p thirtyTwo) h))) ∙ k))
+same-nan p (inr i) h k = absurd (true≢false (sym (is-true (le thirtyTwo p) (not-lt→le p thirtyTwo (in-finite minus16 f48 p tt tt i) tt (from-false (lt p thirtyTwo) h))) ∙ k))
 same-nan p (inl e) h k = same-as p 0 1 (pos 0) (turningOf p) (ranged-middle p 0 (ap armNumberOf e ∙ arm-nan) (omega arith)) refl (omega arith) (omega arith) (inl e)
 
 -- ---- so every admitted phase has its arm and its shift

@@ -1,6 +1,7 @@
 -- A branch: what a `cond` is where its test is known, and what a test that holds says. Assumes nothing.
-use mathlib.Core.Path.{_≡_, refl, sym}
+use mathlib.Core.Path.{_≡_, refl, sym, subst}
 use mathlib.Core.Bool.{Bool, true, false, not, cond, _&&_, _||_, false≢true, true≢false}
+use lib.Dec.{T}
 
 module _ {A : Type 0} where
   pub cond-yes : (b : Bool) (x y : A) → b ≡ true → x ≡ cond b x y
@@ -27,3 +28,9 @@ and-true false b h = absurd (false≢true h)
 pub or-false : (a b : Bool) → (a || b) ≡ false → (a ≡ false) × (b ≡ false)
 or-false true b h = absurd (true≢false h)
 or-false false b h = (refl, h)
+
+pub from-true : (b : Bool) → b ≡ true → T b
+from-true b e = subst T (sym e) tt
+
+pub from-false : (b : Bool) → b ≡ false → T (not b)
+from-false b e = subst (λ (t : Bool). T (not t)) (sym e) tt

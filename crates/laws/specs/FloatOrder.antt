@@ -13,6 +13,7 @@ use lib.Ieee.Exact.{HasValue}
 use lib.Ieee.Order.{le-of-values}
 use lib.Ieee.Scale.{finite}
 use lib.Ieee.Positive.{num, den, den-pos}
+use Rattle.laws.specs.Branches.{from-false}
 
 -- ---- a finite value is (plus - minus) / den
 abbrev pub plus : Float → ℕ
@@ -171,10 +172,6 @@ le→cross (fin false m e) (fin false n d) p q h =
     elim (or-split (ltb a b) (eqb a b && true) h) [ inl u ↦ le-of-lt (ltb→lt a b u) | inr u ↦ le-of-eq (eqb→eq a b (and-l (eqb a b) true u)) ]
 
 -- ---- of any two values but NaNs, one is below the other or at most it
-from-false : (b : Bool) → b ≡ false → T (not b)
-from-false true e = absurd (true≢false e)
-from-false false e = tt
-
 flip-plain : (a b : ℕ) → ltb a b ≡ false → (ltb b a || (eqb b a && true)) ≡ true
 flip-plain a b h = elim (eq-or-lt-of-le (nltb→le a b (from-false (ltb a b) h))) [
   | inl e ↦ right (ltb b a) (eqb b a && true) (and-i (eqb b a) true (eq→eqb e) tt)

@@ -14,8 +14,7 @@ use Rattle.laws.specs.FloatPack.{shifted-bits, shifted-min, closest-top}
 use Rattle.laws.specs.FloatParts.{field, digitsOf, powerOf, digits-lt, digits-some}
 use Rattle.patterns.specs.Shift.{Cmp, cmp}
 use Rattle.numbers.specs.Rare.{rare}
-use Rattle.laws.specs.Branches.{or-false}
-use Rattle.numbers.specs.Laws.{from-false}
+use Rattle.laws.specs.Branches.{or-false, from-false}
 
 -- d, moved up so that its highest digit stands at place 62
 pub record Norm (d z : ℕ) : Type 0 where

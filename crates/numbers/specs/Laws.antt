@@ -5,7 +5,7 @@ use lib.Ieee.Scale.{round-same}
 use lib.Ieee.Compare.{differs-from-itself}
 use native.Mathlib.Nat.{mod-eq-of-lt, add-mod-left}
 use native.Mathlib.Omega.{arith}
-use mathlib.Core.Bool.{Bool, true, false, not, _&&_, _||_, Bool·beq, cond, true≢false}
+use mathlib.Core.Bool.{Bool, true, false, not, _&&_, _||_, Bool·beq, cond}
 use lib.IntN.{ℤ, pos}
 use lib.Dec.{T, leb, eqb, eqb-refl}
 use lib.Ieee.{Float, nan, inf, fin, Format, binary32, binary64, prec, low, up, down, top, hid, ones, odd, ofFields, ofBits, toBits, neg, sub, round, lt, eq, ne, isNan, fits, nanBits}
@@ -18,10 +18,6 @@ use Rattle.laws.specs.FloatValues.{round-id}
 use Rattle.numbers.specs.Numbers.{absOf, signOf, isFinite, minOf, maxOf, clampOf, convert}
 
 -- ---- tests
-pub from-false : (b : Bool) → b ≡ false → T (not b)
-from-false true e = absurd (true≢false e)
-from-false false e = tt
-
 level-self : (s : Bool) (a : ℕ) → (eqb a a && (Bool·beq s s || eqb a 0)) ≡ true
 level-self true a = ap (λ (b : Bool). b && true) (is-true (eqb a a) (eqb-refl a))
 level-self false a = ap (λ (b : Bool). b && true) (is-true (eqb a a) (eqb-refl a))

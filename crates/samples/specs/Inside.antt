@@ -1,5 +1,5 @@
 -- One test of a part answers both questions for most blocks: below the upper end in size it is finite and at neither end. Assumes nothing.
-use mathlib.Core.Path.{_≡_, refl, sym, _∙_, subst}
+use mathlib.Core.Path.{_≡_, refl, sym, _∙_}
 use mathlib.Core.Bool.{Bool, true, false, _&&_, _||_}
 use mathlib.Core.List.{List}
 use Prim.Native.Nat.{ℕ, _+_, _*_, _<_}
@@ -11,7 +11,7 @@ use lib.Ieee.Bits.{is-false}
 use lib.Ieee.Scale.{finite}
 use Rattle.laws.specs.Turns.{turns}
 use Rattle.laws.specs.Places.{all-true, true-all}
-use Rattle.laws.specs.Branches.{and-true}
+use Rattle.laws.specs.Branches.{and-true, from-true}
 use Rattle.laws.specs.FloatOrder.{lt→le, lt-clash, le-trans', between-finite}
 use Rattle.numbers.specs.Numbers.{isFinite}
 use Rattle.samples.specs.declared.Level.{Level}
@@ -38,9 +38,6 @@ inside-finite (inf true) h = h
 inside-finite (inf false) h = h
 inside-finite (fin s m e) h = refl
 
-to-T : (b : Bool) → b ≡ true → T b
-to-T b e = subst T (sym e) tt
-
 -- the ends are numbers, and the lower one is below the upper one negated
 record Ends : Type 0 where
   upper : T (finite upperEnd)
@@ -56,8 +53,8 @@ inside-off-ends : (x : Float) → isInside x ≡ true → isAtEnd x ≡ false
 unfolding isInside isAtEnd
 inside-off-ends x h =
     let p = and-true (lt upperEndNegated x) (lt x upperEnd) h in
-    let above = to-T (lt upperEndNegated x) (p .0) in
-    let below = to-T (lt x upperEnd) (p .1) in
+    let above = from-true (lt upperEndNegated x) (p .0) in
+    let below = from-true (lt x upperEnd) (p .1) in
     let number = between-finite upperEndNegated x upperEnd (ends .negated) (ends .upper) (lt→le upperEndNegated x above) (lt→le x upperEnd below) in
     let up = is-false (le upperEnd x) (not-T (le upperEnd x) (lt-clash x upperEnd below)) in
     let down = is-false (le x lowerEnd) (not-T (le x lowerEnd) (λ l. lt-clash upperEndNegated x above (le-trans' x lowerEnd upperEndNegated number (ends .lower) (ends .negated) l (ends .ordered)))) in

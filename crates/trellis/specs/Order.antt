@@ -1,20 +1,18 @@
 -- The order of floats that are no NaN, infinities included, and what follows for the first of the cheapest: it may be sought in parts. Assumes nothing.
-use mathlib.Core.Path.{_≡_, refl, sym, _∙_, subst}
+use mathlib.Core.Path.{_≡_, refl, sym, _∙_}
 use mathlib.Core.Bool.{Bool, true, false, not, _&&_, true≢false}
 use lib.Dec.{T, not-T}
 use lib.Ieee.{Float, nan, inf, fin, lt, le, isNan}
 use lib.Ieee.Bits.{is-false}
+use Rattle.laws.specs.Branches.{from-true}
 use Rattle.laws.specs.FloatOrder.{total, le-trans', lt→le, lt-clash}
-
-to-T : (b : Bool) → b ≡ true → T b
-to-T b e = subst T (sym e) tt
 
 -- ---- what is below is not above, nor is what is level
 le-turned : (x y : Float) → T (le x y) → lt y x ≡ false
 le-turned x y h = is-false (lt y x) (not-T (lt y x) (λ l. lt-clash y x l h))
 
 pub lt-turned : (x y : Float) → lt x y ≡ true → lt y x ≡ false
-lt-turned x y h = le-turned x y (lt→le x y (to-T (lt x y) h))
+lt-turned x y h = le-turned x y (lt→le x y (from-true (lt x y) h))
 
 -- ---- at least a, and at least that: at least a
 pub no-less : (a b c : Float) → isNan a ≡ false → isNan b ≡ false → isNan c ≡ false → lt b a ≡ false → lt c b ≡ false → lt c a ≡ false
@@ -50,8 +48,8 @@ no-less (fin s m e) (inf false) (fin u k g) x y z p q = absurd (true≢false q)
 no-less (fin s m e) (fin t n d) nan x y z p q = refl
 no-less (fin s m e) (fin t n d) (inf u) x y z p q = q
 no-less (fin s m e) (fin t n d) (fin u k g) x y z p q =
-    let i : T (le (fin s m e) (fin t n d)) = to-T (le (fin s m e) (fin t n d)) (total (fin t n d) (fin s m e) tt tt p) in
-    let j : T (le (fin t n d) (fin u k g)) = to-T (le (fin t n d) (fin u k g)) (total (fin u k g) (fin t n d) tt tt q) in
+    let i : T (le (fin s m e) (fin t n d)) = from-true (le (fin s m e) (fin t n d)) (total (fin t n d) (fin s m e) tt tt p) in
+    let j : T (le (fin t n d) (fin u k g)) = from-true (le (fin t n d) (fin u k g)) (total (fin u k g) (fin t n d) tt tt q) in
     le-turned (fin s m e) (fin u k g) (le-trans' (fin s m e) (fin t n d) (fin u k g) tt tt tt i j)
 
 pub lt-through : (a b c : Float) → isNan a ≡ false → isNan b ≡ false → isNan c ≡ false → lt b a ≡ true → lt c b ≡ true → lt c a ≡ true

@@ -21,8 +21,7 @@ use mathlib.Core.Logic.{_⊎_, inl, inr}
 use lib.Ieee.Compare.{nan-differs, differs-from-itself}
 use Rattle.laws.specs.FloatPack.{shifted-bits, closest-top}
 use Rattle.laws.specs.FloatRounding.{round-neg}
-use Rattle.laws.specs.Branches.{or-false}
-use Rattle.numbers.specs.Laws.{from-false}
+use Rattle.laws.specs.Branches.{or-false, from-true, from-false}
 
 -- ---- n moved up to the highest place
 pub record High (n z : ℕ) : Type 0 where
@@ -96,9 +95,6 @@ int-pos (pos n) F a y h e g = g ∙ ap (λ (k : ℕ). ofInt binary64 (pos k)) (e
 int-pos (negsuc k) F a y h e g = absurd (true≢false (rw (toZ-ofZ F) at h))
 
 -- ---- past the ends of a signed integer of h bits and its sign, and within them
-from-true : (b : Bool) → b ≡ true → T b
-from-true b e = subst T (sym e) tt
-
 positive-sum : (a b : ℕ) → 0 < b → ltb 0 (a + b) ≡ true
 positive-sum a b B = is-true (ltb 0 (a + b)) (lt→ltb 0 (a + b) (lt-of-lt-of-le B (le-add-left b a)))
 
