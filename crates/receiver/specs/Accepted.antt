@@ -18,7 +18,7 @@ use Rattle.front.specs.declared.FrontPlace.{FrontPlace}
 use Rattle.receiver_state.specs.declared.state.Receiver.{Receiver}
 use Rattle.checks.specs.Refusal.{numberOf}
 use Rattle.samples.specs.Samples.{countOf, realOf, imaginaryOf, finiteOf}
-use Rattle.samples.specs.Inside.{finite-parts}
+use Rattle.samples.specs.Laws.{finite-parts}
 use Rattle.checks.specs.Admitted.{stateFits}
 use Rattle.receiver.specs.Admitted.{admittedOf, judgedOf}
 use Rattle.checks.specs.Fits.{Fits, fits-from}

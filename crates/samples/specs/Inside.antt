@@ -61,10 +61,6 @@ inside-off-ends x h =
     rw (up, down)
 
 -- ---- all samples
-pub finite-parts : (xs : List Float) → finiteOf xs ≡ true → (k : ℕ) → k < countOf xs → (isFinite (realOf xs k) ≡ true) × (isFinite (imaginaryOf xs k) ≡ true)
-unfolding finiteOf
-finite-parts xs h k l = and-true (isFinite (realOf xs k)) (isFinite (imaginaryOf xs k)) (true-all (λ (k : ℕ). isFinite (realOf xs k) && isFinite (imaginaryOf xs k)) (countOf xs) h k l)
-
 module _ (xs : List Float) (inside : allInside xs ≡ true) where
   each : (k : ℕ) → k < length xs → isInside (getD xs k nan) ≡ true
   unfolding allInside

@@ -1,15 +1,24 @@
--- A count of samples, over every test and every kind of part: its step where the tests' outcomes are known; at most all samples; none where no part passes. Assumes nothing.
+-- What the checks of the samples say of each: where all are finite, each part is. A count of samples, over every test and every kind of part: its step where the tests' outcomes are known; at most all samples; none where no part passes. Assumes nothing.
 use mathlib.Core.Path.{_≡_, refl, sym}
-use mathlib.Core.Bool.{Bool, true, false, cond, _||_}
+use mathlib.Core.Bool.{Bool, true, false, cond, _&&_, _||_}
 use mathlib.Core.List.{List}
 use Prim.Native.Nat.{ℕ, zero, suc, _+_, _*_, _/_, _≤_, _<_}
 use native.Mathlib.Nat.{add-zero}
 use native.Mathlib.Omega.{arith}
 use lib.ListN.{length, getD}
+use lib.Ieee.{Float}
 use Rattle.laws.specs.Turns.{turns}
-use Rattle.samples.specs.Samples.{tallied, samplesWith}
+use Rattle.laws.specs.Places.{true-all}
+use Rattle.laws.specs.Branches.{and-true}
+use Rattle.numbers.specs.Numbers.{isFinite}
+use Rattle.samples.specs.Samples.{countOf, realOf, imaginaryOf, finiteOf, tallied, samplesWith}
 
--- ---- one sample
+-- ---- all parts
+pub finite-parts : (xs : List Float) → finiteOf xs ≡ true → (k : ℕ) → k < countOf xs → (isFinite (realOf xs k) ≡ true) × (isFinite (imaginaryOf xs k) ≡ true)
+unfolding finiteOf
+finite-parts xs h k l = and-true (isFinite (realOf xs k)) (isFinite (imaginaryOf xs k)) (true-all (λ (k : ℕ). isFinite (realOf xs k) && isFinite (imaginaryOf xs k)) (countOf xs) h k l)
+
+-- ---- a count's step
 module _ {A : Type 0} (test : A → Bool) (n : ℕ) (real imaginary : A) (a b : Bool) (p : a ≡ test real) (q : b ≡ test imaginary) where
   pub tally-more : (a || b) ≡ true → n + 1 ≡ tallied test n real imaginary
   tally-more h = rw (← p, ← q, h)
