@@ -1,7 +1,6 @@
 -- The carrier loop, as the Rust's `Carrier` has it: f64 but for what the detector gives. Definitions only.
-use Prim.Native.Nat.{ℕ, _+_, _%_}
+use Prim.Native.Nat.{_+_, _%_}
 use mathlib.Core.Bool.{Bool, false, _&&_}
-use mathlib.Core.List.{List}
 use lib.Dec.{leb}
 use lib.IntN.{pos}
 use lib.Ieee.{Float, binary32, binary64, ofBits, ofInt, add, sub, mul, div, neg, lt}
@@ -13,11 +12,9 @@ use Rattle.routines.specs.Circle.{pairOf}
 use Rattle.routines.specs.declared.circle.SineCosine.{SineCosine}
 use Rattle.complex.specs.declared.Complex32.{Complex32}
 use Rattle.complex.specs.Complex.{narrowedOf}
-use Rattle.complex.specs.Planes.{Planes}
-use Rattle.answers.specs.declared.soft.Soft.{Soft}
+use Rattle.sequence.specs.declared.step.Detected.{Detected}
 use Rattle.sequence.specs.Sequence as Sequence
 use Rattle.sequence.specs.Admitted as Admitted
-use Rattle.lms_detector.specs.Detector as Detector
 use Rattle.carrier.specs.declared.Loop.{Loop}
 use Rattle.carrier.specs.declared.CarrierPlace.{CarrierPlace}
 use Rattle.carrier.specs.declared.Carried.{Carried}
@@ -117,28 +114,11 @@ loopAfterOf l phase power reliable =
 
 -- ---- a symbol
 
--- what a step leaves
-pub record CarrierStep : Type 0 where
-  pub carried : Carried
-  pub channels : Planes
-  pub costs : List Float
-  pub parents : List ℕ
-
--- what the detector's step makes of the loop
-abbrev pub carriedWith : CarrierPlace → Bool → Detector.DetectorStep → CarrierStep
-carriedWith c reliable d = record {
-  carried = record {
-    place = record { turn = loopAfterOf (c .turn) (d .detected .phase) (d .detected .power) reliable; detector = d .detected .place };
-    answer = d .detected .answer;
-    soft = d .detected .soft;
-    equalized = d .detected .equalized;
-  };
-  channels = d .channels;
-  costs = d .costs;
-  parents = d .parents;
+-- what the detector gives of a symbol, and the loop that has followed it
+abbrev pub carriedWith : Loop → Detected → Bool → Carried
+carriedWith l d reliable = record {
+  place = record { turn = loopAfterOf l (d .phase) (d .power) reliable; detector = d .place };
+  answer = d .answer;
+  soft = d .soft;
+  equalized = d .equalized;
 }
-
--- the symbol is corrected, and the detector takes its step
-unfoldable pub carriedOf : CarrierPlace → Complex32 → Bool → Soft → Planes → List Float → List ℕ → CarrierStep
-carriedOf c z reliable oldest channels costs parents =
-    carriedWith c reliable (Detector.detectedOf (c .detector) (correctedOf (c .turn) z) reliable oldest channels costs parents)

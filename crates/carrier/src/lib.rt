@@ -1,16 +1,11 @@
-// The carrier loop around the detector: it turns each symbol back by its phase and by the
-// constellation's alternation, and follows the phase of what the detector missed by.
+// The carrier loop, whichever detector it runs around: it turns each symbol back by its phase and by
+// the constellation's alternation, and follows the phase of what the detector missed by.
 ghost use mathlib.Core.Path.{_≡_};
 ghost use Prim.Native.Nat.{_≤_};
 ghost use Rattle.carrier.specs.Carrier.{freshPlace, admittedOf, rotationOf, turnedBackOf, correctedOf, unwoundOf, phaseErrorOf};
-ghost use Rattle.carrier.specs.Carrier.{frequencyAfterOf, phaseAfterOf, errorAfterOf, isLocked, loopAfterOf, carriedOf};
-ghost use Rattle.carrier.specs.Ranges.{Ranged, RangedAfter};
-ghost use Rattle.carrier.specs.Lends.{leaves};
-use answers::PARENTS;
+ghost use Rattle.carrier.specs.Carrier.{frequencyAfterOf, phaseAfterOf, errorAfterOf, isLocked, loopAfterOf, carriedWith};
 use answers::soft::Soft;
 use answers::walk::Answer;
-use channels::CHANNELS;
-use channels::STATES;
 use complex::Complex32;
 use complex::Complex64;
 use complex::Observation;
@@ -21,6 +16,7 @@ use numbers::narrow::widen;
 use roots::sqrt32;
 use routines::circle::SineCosine;
 use routines::circle::sine_cosine;
+use sequence::step::Detected;
 use sequence::step::DetectorPlace;
 use whole::round_ties_even;
 
@@ -91,7 +87,8 @@ fn turned_back(t: SineCosine, sample: Complex32) -> Complex32
     })
 }
 
-fn corrected(l: Loop, sample: Complex32) -> Complex32
+// The symbol as the detector takes it.
+pub fn corrected(l: Loop, sample: Complex32) -> Complex32
     ensures { λ r. ⌜ r ≡ correctedOf l sample ⌝ }
 {
     turned_back(sine_cosine(rotation(l)), sample)
@@ -151,45 +148,18 @@ fn loop_after(l: Loop, phase: f32, power: f32, reliable: bool) -> Loop
     }
 }
 
-// One symbol. `oldest` is the soft record of 31 steps before; the caller puts the step's own in the
-// detector's slot.
-pub fn step(
-    c: CarrierPlace,
-    sample: Complex32,
-    reliable: bool,
-    oldest: Soft,
-    channel_real: &mut [f32; CHANNELS],
-    channel_imaginary: &mut [f32; CHANNELS],
-    costs: &mut [f32; STATES],
-    parents: &mut [u8; PARENTS],
-) -> Carried
-    requires { ⌜ Ranged c (now «channel_real») (now «channel_imaginary») (now costs) (now parents) ⌝ }
-    ensures { λ r. ⌜ leaves r «channel_real» «channel_imaginary» costs parents
-        (λ channels held table after. (after ≡ carriedOf c sample reliable oldest channels held table) × RangedAfter after) ⌝ }
+// What the detector gives of a symbol, and the loop that has followed it.
+pub fn carry(l: Loop, d: Detected, reliable: bool) -> Carried
+    requires { ⌜ l .alternation ≤ 7 ⌝ }
+    ensures { λ r. ⌜ r ≡ carriedWith l d reliable ⌝ }
 {
-    let before = c.turn;
-    let detector = c.detector;
-    let input = corrected(before, sample);
-    let d = lms_detector::step(
-        detector,
-        input,
-        reliable,
-        oldest,
-        channel_real,
-        channel_imaginary,
-        costs,
-        parents,
-    );
-    let turn = loop_after(before, d.phase, d.power, reliable);
-    let next = d.place;
+    let turn = loop_after(l, d.phase, d.power, reliable);
+    let detector = d.place;
     let answer = d.answer;
     let soft = d.soft;
     let equalized = d.equalized;
     Carried {
-        place: CarrierPlace {
-            turn,
-            detector: next,
-        },
+        place: CarrierPlace { turn, detector },
         answer,
         soft,
         equalized,

@@ -8,7 +8,7 @@ use Rattle.complex.specs.Planes.{Planes}
 use Rattle.answers.specs.declared.soft.Soft.{Soft}
 use Rattle.answers.specs.declared.walk.Answer.{Answer}
 use Rattle.carrier.specs.declared.Carried.{Carried}
-use Rattle.carrier.specs.Carrier as Carrier
+use Rattle.lms_carrier.specs.Carrier as Carrier
 use Rattle.signal.specs.declared.ViewPlace.{ViewPlace}
 use Rattle.signal.specs.Signal as Signal
 use Rattle.labels.specs.Labels.{rearranges, labelledOf, countedOf}

@@ -18,8 +18,8 @@ use Rattle.answers.specs.declared.walk.Answer.{Answer}
 use Rattle.answers.specs.declared.walk.Answer.the-variants.{Silent, Dibit}
 use Rattle.answers.specs.Observed.{slotOf, recordBefore}
 use Rattle.carrier.specs.declared.Carried.{Carried}
-use Rattle.carrier.specs.Carrier as Carrier
-use Rattle.carrier.specs.Laws.{carried-ranged}
+use Rattle.lms_carrier.specs.Carrier as Carrier
+use Rattle.lms_carrier.specs.Laws.{carried-ranged}
 use Rattle.signal.specs.declared.ViewPlace.{ViewPlace}
 use Rattle.signal.specs.Signal as Signal
 use Rattle.labels.specs.Labels.{rearranges, labelledOf, countedOf}

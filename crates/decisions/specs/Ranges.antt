@@ -1,7 +1,7 @@
 -- The ranges of the stage's places and the lengths of its planes: what a symbol needs, and leaves. Definitions only.
 use Prim.Native.Nat.{ℕ, _+_, _*_, _≤_}
 use lib.ListN.{length}
-use Rattle.carrier.specs.Ranges as Carrier
+use Rattle.lms_carrier.specs.Ranges as Carrier
 pub use Rattle.labels.specs.Labels.{mostSymbols}
 use Rattle.signal.specs.Signal as Signal
 use Rattle.decisions.specs.Decisions.{DecisionsState}

@@ -74,7 +74,7 @@ pub fn step(
 {
     let carrier = p.carrier;
     let view = p.view;
-    let c = carrier::step(
+    let c = lms_carrier::step(
         carrier,
         symbol,
         reliable,

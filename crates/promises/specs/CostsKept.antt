@@ -18,6 +18,7 @@ use Rattle.answers.specs.declared.soft.Soft.{Soft}
 use Rattle.lms_detector.specs.Detector as lms_detector
 use Rattle.sequence.specs.Theorems.{costs-stepped}
 use Rattle.carrier.specs.Carrier as carrier
+use Rattle.lms_carrier.specs.Carrier as lms_carrier
 use Rattle.recovery.specs.declared.step.Found.{Found}
 use Rattle.recovery.specs.declared.step.Found.the-variants.{Nothing, Here}
 use Rattle.recovery.specs.Recovery as recovery
@@ -41,7 +42,7 @@ GoodCosts costs = Good (λ s. getD costs s nan)
 
 -- ---- a value: the costs stay as they are, or the trellis takes a step
 heard-keeps : (f : Found) (r : recovery.RecoveryState) (d : decisions.DecisionsState) (oldest : Soft) → GoodCosts (d .costs) → GoodCosts (heardOf f r d oldest .state .costs)
-unfolding heardOf decisions.decidedOf carrier.carriedOf lms_detector.detectedOf lms_detector.detectedWith
+unfolding heardOf decisions.decidedOf lms_carrier.carriedOf lms_detector.detectedOf lms_detector.detectedWith
 heard-keeps Nothing r d oldest g = g
 heard-keeps (Here z reliable) r d oldest g =
     costs-stepped (d .place .carrier .detector) (carrier.correctedOf (d .place .carrier .turn) z) reliable oldest (d .channels) (d .costs) (d .parents) g

@@ -16,7 +16,7 @@ use Rattle.answers.specs.declared.soft.Soft.{Soft}
 use Rattle.answers.specs.declared.walk.Answer.{Answer}
 use Rattle.answers.specs.declared.walk.Answer.the-variants.{Silent, Dibit}
 use Rattle.answers.specs.Observed.{recordBefore}
-use Rattle.carrier.specs.Carrier as carrier
+use Rattle.lms_carrier.specs.Carrier as lms_carrier
 use Rattle.labels.specs.Labels.{rearranges, labelledOf, countedOf}
 use Rattle.recovery.specs.declared.step.Found.{Found}
 use Rattle.recovery.specs.declared.step.Found.the-variants.{Nothing, Here}
@@ -59,7 +59,7 @@ heard-counts Nothing s r oldest = record { symbols = omega arith; locked = none 
     none true n = omega arith
     none false n = omega arith
 heard-counts (Here z reliable) s r oldest =
-    let c = carrier.carriedOf (s .place .carrier) z reliable oldest (s .channels) (s .costs) (s .parents) .carried in
+    let c = lms_carrier.carriedOf (s .place .carrier) z reliable oldest (s .channels) (s .costs) (s .parents) .carried in
     let rearranged = rearranges (s .place .profile) in
     record {
       symbols = answer-counts (s .place .symbols) (c .answer) true rearranged (c .soft);

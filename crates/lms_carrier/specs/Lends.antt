@@ -5,8 +5,8 @@ use lib.Ieee.{Float}
 use denote.Ref.{now}
 use Rattle.laws.specs.Lent.{Lends}
 use Rattle.complex.specs.Planes.{Planes}
 use Rattle.carrier.specs.declared.Carried.{Carried}
-use Rattle.carrier.specs.Carrier.{CarrierStep}
+use Rattle.lms_carrier.specs.Carrier.{CarrierStep}
 
 -- the channels, the costs and the parents as they are given, and all that the step leaves
 module _ (r : Carried) (channelReal channelImaginary costs : Lends Float) (parents : Lends ℕ) where
