@@ -4,5 +4,6 @@ pub mod Lends
 pub mod Ranges
 pub mod RangesKept
 pub mod RowLaws
+pub mod Later
 pub mod Stages
 pub mod Laws

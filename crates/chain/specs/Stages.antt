@@ -1,4 +1,5 @@
--- THE STAGES: the chain value by value is the first stage over the row of values, and then the second over its row of symbols. Assumes nothing.
+-- THE STAGES: the chain value by value is the first stage over the row of values, then the second over its row of symbols, then the third over its row of answers.
+-- Assumes nothing.
 use mathlib.Core.Path.{_≡_, refl, sym, ap, _∙_}
 use Prim.Native.Nat.{ℕ, zero, suc, _+_, _*_, _≤_}
 use native.Mathlib.Omega.{arith}
@@ -7,7 +8,7 @@ use mathlib.Core.List.{List, foldl-append}
 use lib.ListN.{length, getD, set}
 use lib.Seq.{getD-set-same, getD-set-other}
 use lib.Ieee.{Float, nan}
-use Rattle.laws.specs.Turns.{turns}
+use Rattle.laws.specs.Turns.{turns, turns-step}
 use Rattle.laws.specs.Places.{upto, upto-more}
 use Rattle.complex.specs.declared.Complex32.{Complex32}
 use Rattle.complex.specs.Planes.{pointAt}
@@ -20,41 +21,45 @@ use Rattle.recovery.specs.Rows as Recovered
 use Rattle.recovery.specs.Ranges as RecoveryRanges
 use Rattle.recovery.specs.Laws as RecoveryLaws
 use Rattle.decisions.specs.Rows as Decided
-use Rattle.decisions.specs.Laws as DecisionsLaws
-use Rattle.chain.specs.Chain.{ChainState, recoveryOf, decisionsOf, joinedOf, Step, heardOf, steppedOf}
+use Rattle.delivery.specs.Delivery as Delivery
+use Rattle.chain.specs.Chain.{ChainState, recoveryOf, joinedOf, Step, heardOf, steppedOf}
 use Rattle.chain.specs.Rows.{dibitsOf, pairOf, recordsAfter, Told, start, slotAt, nextOf, told, ranOf, Room, laidIn, Lent, laidOver, valuesOf}
 use Rattle.chain.specs.Ranges.{Ranged}
 use Rattle.chain.specs.RowLaws.{all-ran, laid-more}
+use Rattle.chain.specs.Later.{Later, laterOf, joinedLent, saidOf, saidRow}
 
--- what is lent, with the two stages apart
-abbrev pub joinedLent : Recovery.RecoveryState → Decided.Lent → Lent
-joinedLent r d = record { state = joinedOf r (d .state); records = d .records; room = d .room }
+-- ---- the later stages over a row of symbols
 
-abbrev pub decisionsLent : Lent → Decided.Lent
-decisionsLent l = record { state = decisionsOf (l .state); records = l .records; room = l .room }
-
--- ---- the second stage over a row of symbols
-abbrev pub over : Recovered.Symbols → Decided.Lent → Decided.Lent
-over s l = Decided.rowOf (s .real) (s .imaginary) (s .reliable) (s .count) l
+abbrev pub over : Recovered.Symbols → Later → Later
+over s l = saidRow (s .real) (s .imaginary) (s .reliable) (s .count) l
 
 -- a later place of the row changes nothing
-row-set : (r i : List Float) (b : List Bool) (at : ℕ) (x y : Float) (sure : Bool) (m : ℕ) (l : Decided.Lent) → m ≤ at
-    → Decided.rowOf (set r at x) (set i at y) (set b at sure) m l ≡ Decided.rowOf r i b m l
-unfolding Decided.rowOf turns
+row-set : (r i : List Float) (b : List Bool) (at : ℕ) (x y : Float) (sure : Bool) (m : ℕ) (l : Later) → m ≤ at
+    → saidRow (set r at x) (set i at y) (set b at sure) m l ≡ saidRow r i b m l
+unfolding saidRow turns
 row-set r i b at x y sure zero l h = refl
 row-set r i b at x y sure (suc m) l h =
     let e : getD (set r at x) m nan ≡ getD r m nan = getD-set-other r at m x nan (λ e. omega arith) in
     let f : getD (set i at y) m nan ≡ getD i m nan = getD-set-other i at m y nan (λ e. omega arith) in
     let g : getD (set b at sure) m false ≡ getD b m false = getD-set-other b at m sure false (λ e. omega arith) in
-    λ j. Decided.linkedOf (row-set r i b at x y sure m l (omega arith) j) (record { real = e j; imaginary = f j }) (g j)
+    λ j. saidOf (row-set r i b at x y sure m l (omega arith) j) (record { real = e j; imaginary = f j }) (g j)
 
--- a symbol, where there is one, decided
-abbrev decidedBy : Found → Decided.Lent → Decided.Lent
-decidedBy Nothing l = l
-decidedBy (Here z sure) l = Decided.linkedOf l z sure
+-- no symbol, nothing said
+pub over-none : (s : Recovered.Symbols) (l : Later) → s .count ≡ 0 → over s l ≡ l
+unfolding saidRow turns
+over-none s l e = ap (λ (n : ℕ). saidRow (s .real) (s .imaginary) (s .reliable) n l) e
 
--- a symbol put after those of the row is decided after them
-over-put : (s : Recovered.Symbols) (f : Found) (l : Decided.Lent) → RecoveryRanges.Roomy 1 s → over (Recovered.putOf s f) l ≡ decidedBy f (over s l)
+-- a symbol, where there is one, decided and delivered
+abbrev saidBy : Found → Later → Later
+saidBy Nothing l = l
+saidBy (Here z sure) l = saidOf l z sure
+
+row-more : (r i : List Float) (b : List Bool) (n : ℕ) (l : Later) → saidRow r i b (n + 1) l ≡ saidOf (saidRow r i b n l) (pointAt (record { real = r; imaginary = i }) n) (getD b n false)
+unfolding saidRow
+row-more r i b n l = sym (turns-step _ n l _ refl)
+
+-- a symbol put after those of the row is taken after them
+over-put : (s : Recovered.Symbols) (f : Found) (l : Later) → RecoveryRanges.Roomy 1 s → over (Recovered.putOf s f) l ≡ saidBy f (over s l)
 over-put s Nothing l h = refl
 over-put s (Here z sure) l h =
     let room = h .room in
@@ -65,8 +70,8 @@ over-put s (Here z sure) l h =
     let e : getD (set (s .real) n (z .real)) n nan ≡ z .real = getD-set-same (s .real) n (z .real) nan (omega arith) in
     let f : getD (set (s .imaginary) n (z .imaginary)) n nan ≡ z .imaginary = getD-set-same (s .imaginary) n (z .imaginary) nan (omega arith) in
     let g : getD (set (s .reliable) n sure) n false ≡ sure = getD-set-same (s .reliable) n sure false (omega arith) in
-    sym (DecisionsLaws.row-step (set (s .real) n (z .real)) (set (s .imaginary) n (z .imaginary)) (set (s .reliable) n sure) n l _ _ refl refl)
-    ∙ (λ j. Decided.linkedOf (row-set (s .real) (s .imaginary) (s .reliable) n (z .real) (z .imaginary) sure n l (omega arith) j) (record { real = e j; imaginary = f j }) (g j))
+    row-more (set (s .real) n (z .real)) (set (s .imaginary) n (z .imaginary)) (set (s .reliable) n sure) n l
+    ∙ (λ j. saidOf (row-set (s .real) (s .imaginary) (s .reliable) n (z .real) (z .imaginary) sure n l (omega arith) j) (record { real = e j; imaginary = f j }) (g j))
 
 -- ---- one value
 
@@ -78,21 +83,21 @@ linkedWith l s = record {
   room = laidIn (l .room) (dibitsOf (s .outcome)) (pairOf (s .outcome));
 }
 
--- without a symbol nothing is written, and a symbol is decided
-heard-linked : (f : Found) (m : ChainState) (r : Recovery.RecoveryState) (d : Decided.Lent) → slotAt m ≡ Decided.slotAt (d .state)
-    → linkedWith (record { state = m; records = d .records; room = d .room }) (heardOf f r (d .state) (recordBefore (d .records) (Decided.slotAt (d .state)))) ≡ joinedLent r (decidedBy f d)
-unfolding heardOf Decided.linkedOf
-heard-linked Nothing m r d e = let n : d .room .written + 0 ≡ d .room .written = omega arith in rw n
+-- without a symbol nothing is written, and a symbol is decided and delivered
+heard-linked : (f : Found) (m : ChainState) (r : Recovery.RecoveryState) (d : Later) → slotAt m ≡ Decided.slotAt (d .state)
+    → linkedWith (record { state = m; records = d .records; room = d .delivery .room }) (heardOf f r (d .state) (d .delivery .place) (recordBefore (d .records) (Decided.slotAt (d .state)))) ≡ joinedLent r (saidBy f d)
+unfolding heardOf saidOf Delivery.deliveredOf
+heard-linked Nothing m r d e = let n : d .delivery .room .written + 0 ≡ d .delivery .room .written = omega arith in rw n
 heard-linked (Here z sure) m r d e = rw e
 
 module _ (taps derivatives : List Float) where
   abbrev linkedOf : Lent → Complex32 → Lent
   linkedOf l z = linkedWith l (nextOf taps derivatives (l .state) (l .records) z)
 
-  value-staged : (r : Recovery.RecoveryState) (d : Decided.Lent) (z : Complex32)
-      → linkedOf (joinedLent r d) z ≡ joinedLent (Recovery.steppedOf taps derivatives r z .state) (decidedBy (Recovery.steppedOf taps derivatives r z .found) d)
+  value-staged : (r : Recovery.RecoveryState) (d : Later) (z : Complex32)
+      → linkedOf (joinedLent r d) z ≡ joinedLent (Recovery.steppedOf taps derivatives r z .state) (saidBy (Recovery.steppedOf taps derivatives r z .found) d)
   unfolding steppedOf
-  value-staged r d z = let k = Recovery.steppedOf taps derivatives r z in heard-linked (k .found) (joinedOf r (d .state)) (k .state) d refl
+  value-staged r d z = let k = Recovery.steppedOf taps derivatives r z in heard-linked (k .found) (joinedOf r (d .state) (d .delivery .place)) (k .state) d refl
 
   laid-told : (room : Room) (t : Told) (z : Complex32) → length (t .reliabilities) ≡ 2 * length (t .dibits) → linkedOf (laidOver room t) z ≡ laidOver room (told taps derivatives t z)
   unfolding told
@@ -119,26 +124,23 @@ module _ (taps derivatives : List Float) where
     told-pairs : (s : ChainState) (records : List Slot) (i : ℕ) → Ranged s → length (toldAt s records i .reliabilities) ≡ 2 * length (toldAt s records i .dibits)
     told-pairs s records i h = let p = all-ran taps derivatives (valuesOf real imaginary i) (start s records) h .pairs in omega arith
 
-    -- ---- THE LAW: a row stage by stage is the row value by value
+    -- ---- THE LAW: a row of values recovered, and its symbols decided and delivered, is the row value by value
     abbrev pub symbolsBy : ℕ → Recovery.RecoveryState → Recovered.Symbols → Recovered.Lent
     symbolsBy n r row = Recovered.rowOf taps derivatives real imaginary n (record { state = r; symbols = row })
 
     pub staged : (n : ℕ) (l : Lent) (row : Recovered.Symbols) → row .count ≡ 0 → RecoveryRanges.Asks n (record { state = recoveryOf (l .state); symbols = row }) → Ranged (l .state)
-        → joinedLent (symbolsBy n (recoveryOf (l .state)) row .state) (over (symbolsBy n (recoveryOf (l .state)) row .symbols) (decisionsLent l))
+        → joinedLent (symbolsBy n (recoveryOf (l .state)) row .state) (over (symbolsBy n (recoveryOf (l .state)) row .symbols) (laterOf l))
         ≡ laidOver (l .room) (toldAt (l .state) (l .records) n)
     unfolding Recovered.rowOf Recovered.linkedOf turns
-    staged zero l row e h k = ap (joinedLent (recoveryOf (l .state))) (none (decisionsLent l)) ∙ none-told l
-      where
-        none : (d : Decided.Lent) → over row d ≡ d
-        none d = ap (λ (n : ℕ). Decided.rowOf (row .real) (row .imaginary) (row .reliable) n d) e ∙ sym (DecisionsLaws.row-start (row .real) (row .imaginary) (row .reliable) d)
+    staged zero l row e h k = ap (joinedLent (recoveryOf (l .state))) (over-none row (laterOf l) e) ∙ none-told l
     staged (suc n) l row e h k =
         let z = pointAt (record { real = real; imaginary = imaginary }) n in
         let b : Recovered.Lent = record { state = recoveryOf (l .state); symbols = row } in
         let a : Recovered.Lent = symbolsBy n (recoveryOf (l .state)) row in
         let s = Recovery.steppedOf taps derivatives (a .state) z in
         let asks : RecoveryRanges.Asks 1 a = RecoveryLaws.row-asks taps derivatives real imaginary n (suc n) b a h refl (omega arith) in
-        ap (joinedLent (s .state)) (over-put (a .symbols) (s .found) (decisionsLent l) (asks .symbols))
-        ∙ sym (value-staged (a .state) (over (a .symbols) (decisionsLent l)) z)
+        ap (joinedLent (s .state)) (over-put (a .symbols) (s .found) (laterOf l) (asks .symbols))
+        ∙ sym (value-staged (a .state) (over (a .symbols) (laterOf l)) z)
         ∙ ap (λ (m : Lent). linkedOf m z) (staged n l row e (RecoveryLaws.fewer taps derivatives real imaginary (suc n) n b (omega arith) h) k)
         ∙ laid-told (l .room) (toldAt (l .state) (l .records) n) z (told-pairs (l .state) (l .records) n k)
         ∙ ap (laidOver (l .room)) (sym (told-more (l .state) (l .records) n))

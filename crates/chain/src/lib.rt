@@ -1,14 +1,16 @@
-// The chain: a row of resampled values to dibits, in two stages: recovery (peak keeper, clock,
-// equalizer) makes a row of symbols of it, and decisions (carrier with detector, view) takes that row.
-// Rings, weights, channels and the view's points are planes that the caller lends; the soft records go
-// by value.
+// The chain: a row of resampled values to dibits, in three stages: recovery (peak keeper, clock,
+// equalizer) makes a row of symbols of it, decisions (carrier with detector, view) a row of answers of
+// that, and delivery (labels, counts) writes these where the caller says. Rings, weights, channels and
+// the view's points are planes that the caller lends; the soft records go by value.
 ghost use mathlib.Core.Path.{_≡_};
 ghost use Prim.Native.Nat.{_≤_};
-ghost use Rattle.chain.specs.Chain.{freshPlace};
+ghost use Rattle.chain.specs.Chain.{freshPlace, deliveryOf, joinedPlace};
 ghost use Rattle.chain.specs.Rows.{valuesOf, chainOf};
 ghost use Rattle.chain.specs.Lends.{given, leaves};
 ghost use Rattle.chain.specs.Ranges.{Asks};
 ghost use Rattle.chain.specs.RowLaws.{Left};
+use answer_row::BYTES;
+use answer_row::FLAGS;
 use answers::PARENTS;
 use answers::soft::Records;
 use carrier::CarrierPlace;
@@ -18,6 +20,9 @@ use clock::ClockPlace;
 use decisions::Decided;
 use decisions::DecisionsPlace;
 use decisions::decide;
+use delivery::Delivered;
+use delivery::DeliveryPlace;
+use delivery::deliver;
 use equalizer::WEIGHTS;
 use filter::RING;
 use peak::KeeperPlace;
@@ -62,9 +67,40 @@ pub fn fresh(profile: i32) -> ChainPlace
     }
 }
 
+// What the third stage has of a chain's place.
+fn delivery_place(p: ChainPlace) -> DeliveryPlace
+    ensures { λ r. ⌜ r ≡ deliveryOf p ⌝ }
+{
+    DeliveryPlace {
+        profile: p.profile,
+        symbols: p.symbols,
+        locked: p.locked,
+    }
+}
+
+// The places of the three stages as a chain's.
+fn joined(r: RecoveryPlace, d: DecisionsPlace, t: DeliveryPlace) -> ChainPlace
+    ensures { λ q. ⌜ q ≡ joinedPlace r d t ⌝ }
+{
+    let keeper = r.keeper;
+    let clock = r.clock;
+    let carrier = d.carrier;
+    let view = d.view;
+    ChainPlace {
+        keeper,
+        clock,
+        carrier,
+        view,
+        profile: t.profile,
+        symbols: t.symbols,
+        locked: t.locked,
+    }
+}
+
 // Takes the first `made` values of a row. Of the dibits, and in pairs of the reliabilities, `written`
 // stand there already; those that the values give are written after them, and the rest is untouched.
-// A row without values, of which high rates make many, ends the call at once.
+// A row without values, of which high rates make many, ends the call at once, and one without symbols
+// after recovery.
 pub fn chain(
     place: ChainPlace,
     records: Records,
@@ -128,22 +164,27 @@ pub fn chain(
         &mut symbol_imaginary,
         &mut reliable,
     );
+    let recovered = r.place;
     let carrier = place.carrier;
     let view = place.view;
-    let second = DecisionsPlace {
-        carrier,
-        view,
-        profile: place.profile,
-        symbols: place.symbols,
-        locked: place.locked,
-    };
-    let before = Decided {
+    let second = DecisionsPlace { carrier, view };
+    let third = delivery_place(place);
+    if r.count == 0 {
+        let quiet = joined(recovered, second, third);
+        return Chained {
+            place: quiet,
+            records,
+            written,
+        };
+    }
+    let mut flags = [false; FLAGS];
+    let mut bytes = [0; BYTES];
+    let undecided = Decided {
         place: second,
         records,
-        written,
     };
     let d = decide(
-        before,
+        undecided,
         &symbol_real,
         &symbol_imaginary,
         &reliable,
@@ -154,28 +195,21 @@ pub fn chain(
         parents,
         view_real,
         view_imaginary,
-        dibits,
-        reliabilities,
+        &mut flags,
+        &mut bytes,
     );
-    let recovered = r.place;
-    let keeper_after = recovered.keeper;
-    let clock_after = recovered.clock;
-    let decided = d.place;
-    let carrier_after = decided.carrier;
-    let view_after = decided.view;
-    let records_after = d.records;
-    let place_after = ChainPlace {
-        keeper: keeper_after,
-        clock: clock_after,
-        carrier: carrier_after,
-        view: view_after,
-        profile: decided.profile,
-        symbols: decided.symbols,
-        locked: decided.locked,
+    let undelivered = Delivered {
+        place: third,
+        written,
     };
+    let t = deliver(undelivered, &flags, &bytes, r.count, dibits, reliabilities);
+    let decided = d.place;
+    let delivered = t.place;
+    let after = joined(recovered, decided, delivered);
+    let records_after = d.records;
     Chained {
-        place: place_after,
+        place: after,
         records: records_after,
-        written: d.written,
+        written: t.written,
     }
 }

@@ -1,22 +1,13 @@
 -- What the functions of the stage are lent, by the names of their parameters: each is a type that computes to the clause written out. Definitions only.
 use Prim.Native.Nat.{ℕ}
+use mathlib.Core.Bool.{Bool}
 use lib.Ieee.{Float}
 use denote.Ref.{now}
 use Rattle.laws.specs.Lent.{Now, Lends}
 use Rattle.decisions.specs.declared.DecisionsPlace.{DecisionsPlace}
 use Rattle.decisions.specs.declared.Decided.{Decided}
 use Rattle.decisions.specs.Decisions.{DecisionsState, stateOf}
-use Rattle.decisions.specs.Rows.{Room, Lent}
-
--- ---- the room for the answers
-abbrev pub givenRoom : ℕ → Now ℕ → Now ℕ → (Room → Type 0) → Type 0
-givenRoom written dibits reliabilities P = P (record { dibits = now dibits; reliabilities = now reliabilities; written = written })
-
-abbrev pub leavesRoom : ℕ → ℕ → Lends ℕ → Lends ℕ → (Room → Room → Type 0) → Type 0
-leavesRoom written more dibits reliabilities Q =
-    Q
-    (record { dibits = now (dibits .entry); reliabilities = now (reliabilities .entry); written = written })
-    (record { dibits = now (dibits .exit); reliabilities = now (reliabilities .exit); written = more })
+use Rattle.decisions.specs.Rows.{Lent}
 
 -- ---- a symbol: the stage as it is given, and as it is left
 module _ (p : DecisionsPlace) (channelReal channelImaginary costs : Now Float) (parents : Now ℕ) (viewReal viewImaginary : Now Float) where
@@ -41,8 +32,8 @@ module _ (p q : DecisionsPlace) (channelReal channelImaginary costs : Lends Floa
       (now (costs .exit)) (now (parents .exit))
       (now (viewReal .exit)) (now (viewImaginary .exit)))
 
--- ---- the stage with its soft records and its room
-module _ (t : Decided) (channelReal channelImaginary costs : Now Float) (parents : Now ℕ) (viewReal viewImaginary : Now Float) (dibits reliabilities : Now ℕ) where
+-- ---- the stage with its soft records and its row of answers
+module _ (t : Decided) (channelReal channelImaginary costs : Now Float) (parents : Now ℕ) (viewReal viewImaginary : Now Float) (flags : Now Bool) (bytes : Now ℕ) where
   abbrev pub givenRow : (Lent → Type 0) → Type 0
   givenRow P =
       P
@@ -53,10 +44,10 @@ module _ (t : Decided) (channelReal channelImaginary costs : Now Float) (parents
             (now costs) (now parents)
             (now viewReal) (now viewImaginary);
         records = t .records .slots;
-        room = record { dibits = now dibits; reliabilities = now reliabilities; written = t .written };
+        answers = record { flags = now flags; bytes = now bytes };
       })
 
-module _ (t r : Decided) (channelReal channelImaginary costs : Lends Float) (parents : Lends ℕ) (viewReal viewImaginary : Lends Float) (dibits reliabilities : Lends ℕ) where
+module _ (t r : Decided) (channelReal channelImaginary costs : Lends Float) (parents : Lends ℕ) (viewReal viewImaginary : Lends Float) (flags : Lends Bool) (bytes : Lends ℕ) where
   abbrev pub leavesRow : (Lent → Lent → Type 0) → Type 0
   leavesRow Q =
       Q
@@ -67,7 +58,7 @@ module _ (t r : Decided) (channelReal channelImaginary costs : Lends Float) (par
             (now (costs .entry)) (now (parents .entry))
             (now (viewReal .entry)) (now (viewImaginary .entry));
         records = t .records .slots;
-        room = record { dibits = now (dibits .entry); reliabilities = now (reliabilities .entry); written = t .written };
+        answers = record { flags = now (flags .entry); bytes = now (bytes .entry) };
       })
       (record {
         state =
@@ -76,5 +67,5 @@ module _ (t r : Decided) (channelReal channelImaginary costs : Lends Float) (par
             (now (costs .exit)) (now (parents .exit))
             (now (viewReal .exit)) (now (viewImaginary .exit));
         records = r .records .slots;
-        room = record { dibits = now (dibits .exit); reliabilities = now (reliabilities .exit); written = r .written };
+        answers = record { flags = now (flags .exit); bytes = now (bytes .exit) };
       })

@@ -1,6 +1,6 @@
-// Decisions: a row of equalized symbols, each with whether it is reliable, to dibits, through carrier
-// with detector, and view. Channels, costs, parents and the view's points are planes that the caller
-// lends; the soft records go by value.
+// Decisions: a row of equalized symbols, each with whether it is reliable, to a row of answers, through
+// carrier with detector, and view. Channels, costs, parents and the view's points are planes that the
+// caller lends; the soft records go by value.
 ghost use mathlib.Core.Path.{_≡_};
 ghost use Prim.Native.Nat.{_≤_};
 ghost use Rattle.decisions.specs.Rows.{rowOf};
@@ -10,6 +10,8 @@ ghost use Rattle.decisions.specs.Lends.{givenRow, leavesRow};
 mod link;
 pub mod step;
 
+use answer_row::BYTES;
+use answer_row::FLAGS;
 use answers::PARENTS;
 use answers::soft::Records;
 use carrier::CarrierPlace;
@@ -23,25 +25,19 @@ use signal::ViewPlace;
 // A row holds at most so many symbols.
 pub const SYMBOLS: usize = 256;
 
-// The places of carrier and view, the profile, the dibits delivered since setup, and those of them
-// that were delivered under lock.
+// The places of carrier and view.
 pub struct DecisionsPlace {
     pub carrier: CarrierPlace,
     pub view: ViewPlace,
-    pub profile: i32,
-    pub symbols: u64,
-    pub locked: u64,
 }
 
-// The place, the soft records, and how many dibits are written.
+// The places and the soft records.
 pub struct Decided {
     pub place: DecisionsPlace,
     pub records: Records,
-    pub written: usize,
 }
 
-// Takes the first `count` symbols of a row. Of the dibits, and in pairs of the reliabilities, as many
-// as `first` says stand there already; those that the symbols give are written after them.
+// Takes the first `count` symbols of a row. The answer to each stands at its place in the row of answers.
 pub fn decide(
     first: Decided,
     symbol_real: &[f32; SYMBOLS],
@@ -54,13 +50,13 @@ pub fn decide(
     parents: &mut [u8; PARENTS],
     view_real: &mut [f32; POINTS],
     view_imaginary: &mut [f32; POINTS],
-    dibits: &mut [u8],
-    reliabilities: &mut [u8],
+    flags: &mut [bool; FLAGS],
+    bytes: &mut [u8; BYTES],
 ) -> Decided
-    requires { ⌜ givenRow first «channel_real» «channel_imaginary» costs parents «view_real» «view_imaginary» dibits reliabilities (Asks count) ⌝ }
+    requires { ⌜ givenRow first «channel_real» «channel_imaginary» costs parents «view_real» «view_imaginary» flags bytes Asks ⌝ }
     requires { ⌜ count ≤ 256 ⌝ }
-    ensures { λ r. ⌜ leavesRow first r «channel_real» «channel_imaginary» costs parents «view_real» «view_imaginary» dibits reliabilities
-        (λ b a. (a ≡ rowOf (now («symbol_real» .entry)) (now («symbol_imaginary» .entry)) (now («reliable» .entry)) count b) × Asks 0 a) ⌝ }
+    ensures { λ r. ⌜ leavesRow first r «channel_real» «channel_imaginary» costs parents «view_real» «view_imaginary» flags bytes
+        (λ b a. (a ≡ rowOf (now («symbol_real» .entry)) (now («symbol_imaginary» .entry)) (now («reliable» .entry)) count b) × Asks a) ⌝ }
 {
     let mut t = first;
     let mut i = 0;
@@ -71,6 +67,7 @@ pub fn decide(
         };
         t = link(
             t,
+            i,
             symbol,
             reliable[i],
             channel_real,
@@ -79,8 +76,8 @@ pub fn decide(
             parents,
             view_real,
             view_imaginary,
-            dibits,
-            reliabilities,
+            flags,
+            bytes,
         );
         i += 1;
     }

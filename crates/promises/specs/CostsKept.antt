@@ -23,7 +23,8 @@ use Rattle.recovery.specs.declared.step.Found.{Found}
 use Rattle.recovery.specs.declared.step.Found.the-variants.{Nothing, Here}
 use Rattle.recovery.specs.Recovery as recovery
 use Rattle.decisions.specs.Decisions as decisions
-use Rattle.chain.specs.Chain.{ChainState, recoveryOf, decisionsOf, heardOf, steppedOf}
+use Rattle.delivery.specs.declared.DeliveryPlace.{DeliveryPlace}
+use Rattle.chain.specs.Chain.{ChainState, recoveryOf, decisionsOf, deliveryOf, heardOf, steppedOf}
 use Rattle.chain.specs.Rows.{Told, start, told, ranOf, chainOf}
 use Rattle.receiver_state.specs.declared.state.Receiver.{Receiver}
 use Rattle.receiver_state.specs.State.{freshReceiver}
@@ -41,16 +42,16 @@ abbrev GoodCosts : List Float → Type 0
 GoodCosts costs = Good (λ s. getD costs s nan)
 
 -- ---- a value: the costs stay as they are, or the trellis takes a step
-heard-keeps : (f : Found) (r : recovery.RecoveryState) (d : decisions.DecisionsState) (oldest : Soft) → GoodCosts (d .costs) → GoodCosts (heardOf f r d oldest .state .costs)
+heard-keeps : (f : Found) (r : recovery.RecoveryState) (d : decisions.DecisionsState) (p : DeliveryPlace) (oldest : Soft) → GoodCosts (d .costs) → GoodCosts (heardOf f r d p oldest .state .costs)
 unfolding heardOf decisions.decidedOf lms_carrier.carriedOf lms_detector.detectedOf lms_detector.detectedWith
-heard-keeps Nothing r d oldest g = g
-heard-keeps (Here z reliable) r d oldest g =
+heard-keeps Nothing r d p oldest g = g
+heard-keeps (Here z reliable) r d p oldest g =
     costs-stepped (d .place .carrier .detector) (carrier.correctedOf (d .place .carrier .turn) z) reliable oldest (d .channels) (d .costs) (d .parents) g
 
 module _ (taps derivatives : List Float) where
   step-keeps : (s : ChainState) (z : Complex32) (oldest : Soft) → GoodCosts (s .costs) → GoodCosts (steppedOf taps derivatives s z oldest .state .costs)
   unfolding steppedOf
-  step-keeps s z oldest g = let k = recovery.steppedOf taps derivatives (recoveryOf s) z in heard-keeps (k .found) (k .state) (decisionsOf s) oldest g
+  step-keeps s z oldest g = let k = recovery.steppedOf taps derivatives (recoveryOf s) z in heard-keeps (k .found) (k .state) (decisionsOf s) (deliveryOf (s .place)) oldest g
 
   values-keep : (values : List Complex32) (t : Told) → GoodCosts (t .state .costs) → GoodCosts (ranOf taps derivatives values t .state .costs)
   unfolding ranOf told

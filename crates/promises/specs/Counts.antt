@@ -22,6 +22,8 @@ use Rattle.recovery.specs.declared.step.Found.{Found}
 use Rattle.recovery.specs.declared.step.Found.the-variants.{Nothing, Here}
 use Rattle.recovery.specs.Recovery as recovery
 use Rattle.decisions.specs.Decisions as decisions
+use Rattle.delivery.specs.Delivery as delivery
+use Rattle.chain.specs.Chain as chain
 use Rattle.chain.specs.Chain.{ChainState, recoveryOf, decisionsOf, Quiet, Heard, Step, heardOf, steppedOf}
 use Rattle.chain.specs.Rows.{recordsAfter, Told, start, slotAt, nextOf, told, ranOf, chainOf}
 use Rattle.receiver_state.specs.declared.state.Receiver.{Receiver}
@@ -51,9 +53,9 @@ answer-counts n (Dibit d h l) true true soft = refl
 answer-counts n (Dibit d h l) true false soft = refl
 answer-counts n (Dibit d h l) false rearranged soft = omega arith
 
-heard-counts : (f : Found) (s : ChainState) (r : recovery.RecoveryState) (oldest : Soft) → Counting s (heardOf f r (decisionsOf s) oldest)
-unfolding heardOf decisions.decidedOf decisions.toldOf
-heard-counts Nothing s r oldest = record { symbols = omega arith; locked = none (isLocked (heardOf Nothing r (decisionsOf s) oldest)) (s .place .locked) }
+heard-counts : (f : Found) (s : ChainState) (r : recovery.RecoveryState) (oldest : Soft) → Counting s (heardOf f r (decisionsOf s) (chain.deliveryOf (s .place)) oldest)
+unfolding heardOf decisions.decidedOf delivery.toldOf
+heard-counts Nothing s r oldest = record { symbols = omega arith; locked = none (isLocked (heardOf Nothing r (decisionsOf s) (chain.deliveryOf (s .place)) oldest)) (s .place .locked) }
   where
     none : (b : Bool) (n : ℕ) → n ≡ n + length (cond b (deliveryOf Quiet) [])
     none true n = omega arith

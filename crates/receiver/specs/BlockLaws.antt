@@ -52,8 +52,8 @@ run-asks r table xs ds rs k kr ki hr hi co pa =
               detector = record { skeleton = record { place = b .carrier .detector; table = f .table; costs-size = co; parents-size = pa }; real-size = hr; imaginary-size = hi };
             };
             view = b .view;
-            locked = f .locked-in;
           };
+          delivery = record { locked = f .locked-in };
         };
         symbols = omega arith;
         room = record { dibits = omega arith; reliabilities = omega arith };
@@ -81,7 +81,7 @@ run-admitted conjugated r table xs ds rs w k g e =
     fits-to (r .total + countOf xs) (w .rung .place) (w .lent .state .place) (w .lent .state .parents) (record {
       total-in = k .total-in;
       index-in = omega arith;
-      locked-in = v .locked;
+      locked-in = l .ranged .delivery .locked;
       symbols-in = omega arith;
       front-fits = y;
       chain-fits = record {

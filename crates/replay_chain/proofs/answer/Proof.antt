@@ -147,8 +147,8 @@ run-requires c κs =
           };
         };
         view = record { head = q .view-head; count = q .view-count };
-        locked = q .locked;
       };
+      delivery = record { locked = q .locked };
     }
 
 returns-2 : tie.Need-returns-2

@@ -1,10 +1,10 @@
 -- `noted` meets its contract: nothing for a silent answer, a dibit and its pair for another. Assumes nothing.
 use native.Mathlib.Omega.{arith}
 use lib.ListN.{length-set}
-use Rattle.decisions.specs.Laws.{noted-silent, noted-dibit}
+use Rattle.delivery.specs.Laws.{noted-silent, noted-dibit}
 use borrow.Author.Needs.{needs}
-use Rattle.decisions.proofs.link.noted.Statement.{statement}
-use Rattle.decisions.proofs.link.noted.Tie as tie
+use Rattle.delivery.proofs.step.noted.Statement.{statement}
+use Rattle.delivery.proofs.step.noted.Tie as tie
 
 enum-known-answer : tie.Need-enum-known-answer
 enum-known-answer c = search needs

@@ -2,10 +2,10 @@
 use mir.Facts.{toZ-ofZ}
 use mir.Val.{SFits}
 use mir.Syntax.{w32}
-use Rattle.decisions.specs.Laws.{told-is}
+use Rattle.delivery.specs.Laws.{told-is}
 use borrow.Author.Needs.{needs}
-use Rattle.decisions.proofs.step.told.Statement.{statement}
-use Rattle.decisions.proofs.step.told.Tie as tie
+use Rattle.delivery.proofs.step.told.Statement.{statement}
+use Rattle.delivery.proofs.step.told.Tie as tie
 
 counted-requires : tie.Need-counted-requires
 counted-requires c κs = search needs
@@ -21,7 +21,7 @@ labelled-requires c κs = search needs
 
 returns : tie.Need-returns
 returns c =
-    let args = c .before .before .before .before .before .before .before .before .args in
+    let args = c .before .before .before .before .before .before .args in
     let counted-is = c .before .before .before .before .before .counted .ensures in
     let counted2-is = c .before .before .before .before .counted2 .ensures in
     let h : SFits w32 (args .p .profile) = search needs in told-is _ _ _ _ _ _ _ _ (toZ-ofZ h) counted-is counted2-is (c .before .before .is-rearranged .ensures) (c .before .labelled .ensures)

@@ -1,0 +1,3 @@
+pub mod AnswerRow
+pub mod Lends
+pub mod Laws
