@@ -68,6 +68,9 @@ const AFTER_STAGES: &str = "
   sequence inputs > LIST | sequence answers < LIST
       runs of the detector, from fresh and from states made from seeds; a line per step, the digest of
       its answer and of the whole state after it
+  drift inputs > LIST | drift answers < LIST | drift counts < LIST
+      runs of the second tracker from given parents and predictions; a line per step, the digest of all
+      taps, drifts and inverses after it; or how often the list meets each edge
   recordings inputs > LIST | recordings answers < LIST
       recordings for the sample program: each refusal that it can give, each way to be malformed, and
       good ones; a line with number and length, then what the program writes

@@ -28,6 +28,8 @@ mod calls;
 mod chain_list;
 mod chosen;
 mod clock_list;
+mod drift_edges;
+mod drift_list;
 mod equalizer_list;
 mod decimator_list;
 mod front_list;
@@ -58,6 +60,7 @@ mod table;
 mod tables;
 mod taps;
 mod trace;
+mod tracker;
 mod trellis;
 mod view_list;
 mod words;
@@ -91,6 +94,7 @@ fn run(words: &[&str]) -> Outcome {
         ["view", rest @ ..] => view_list::run(rest),
         ["equalizer", rest @ ..] => equalizer_list::run(rest),
         ["decimator", rest @ ..] => decimator_list::run(rest),
+        ["drift", rest @ ..] => drift_list::run(rest),
         ["chain", rest @ ..] => chain_list::run(rest),
         ["clock", rest @ ..] => clock_list::run(rest),
         ["front", rest @ ..] => front_list::run(rest),

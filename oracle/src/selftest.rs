@@ -1,6 +1,7 @@
 //! The oracle's test of itself: clean signals are received right, the hand-driven stages give what
-//! the upstream's own run gives, states survive dump and load, admitted states stay admitted, the
-//! five routines are as near the machine's as document 01 asks, and overload is counted by its table.
+//! the upstream's own run gives, and so does the hand-driven second tracker, whose list meets every
+//! edge; states survive dump and load, admitted states stay admitted, the five routines are as near the
+//! machine's as document 01 asks, and overload is counted by its table.
 
 use crate::admitted::admitted;
 use crate::calls::block;
@@ -12,7 +13,7 @@ use crate::state::State;
 use crate::table::unmet;
 use crate::trace::{traced, Decision};
 use crate::trellis::{first_cheapest, raw_costs};
-use crate::{accuracy, overload, Complex32};
+use crate::{accuracy, drift_list, overload, tracker, Complex32};
 
 /// What was found, or what failed.
 pub type Verdict = Result<String, String>;
@@ -55,6 +56,8 @@ pub fn run(words: &[&str]) -> Result<(), String> {
     report("overload".into(), overload::tested());
     report("random states".into(), random_states(states));
     report("raw costs".into(), raw_costs_agree());
+    report("second tracker by hand".into(), tracker::tested());
+    report("drift list".into(), drift_list::tested());
     report("sine and cosine".into(), accuracy::circle());
     report("arctangent".into(), accuracy::arctangent());
     report("hypotenuse".into(), accuracy::hypotenuse());

@@ -1,4 +1,5 @@
-//! The detector's sums, made again for the trace: the upstream keeps them only less the best one.
+//! The detector's sums and predictions, made again: the upstream keeps the sums only less the best one,
+//! and the predictions not at all.
 
 use crate::sequence::{Sequence, SYMBOLS};
 use crate::Complex32;
@@ -22,16 +23,22 @@ fn metric(s: &Sequence, prior: usize, current: usize, input: Complex32, reliable
     if !reliable {
         return 0.0;
     }
+    let prediction = prediction(&s.channels[prior], prior, current);
+    let x = input.real - prediction.real;
+    let y = input.imaginary - prediction.imaginary;
+    (x * x + y * y).min(16.0)
+}
+
+/// What a channel makes of a symbol after a state.
+pub fn prediction(channel: &[Complex32; 4], prior: usize, current: usize) -> Complex32 {
     let path = [current, prior % 4, prior / 4 % 4, prior / 16];
     let mut prediction = Complex32::default();
-    for (h, place) in s.channels[prior].iter().zip(path) {
+    for (h, place) in channel.iter().zip(path) {
         let symbol = SYMBOLS[place];
         prediction.real += h.real * symbol.real - h.imaginary * symbol.imaginary;
         prediction.imaginary += h.real * symbol.imaginary + h.imaginary * symbol.real;
     }
-    let x = input.real - prediction.real;
-    let y = input.imaginary - prediction.imaginary;
-    (x * x + y * y).min(16.0)
+    prediction
 }
 
 pub fn first_cheapest(costs: &[f32; 64]) -> usize {
