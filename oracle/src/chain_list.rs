@@ -19,6 +19,7 @@ use crate::made::{self, Made};
 use crate::random::Random;
 use crate::routines::{cosine, sine};
 use crate::samples::word64;
+use crate::sequence::Tracking;
 use crate::sequence_list::{detector, mixed_detector, mixed_point, Start};
 use crate::Complex32;
 use std::io::{self, BufWriter, Read, Write};
@@ -64,7 +65,7 @@ fn chain(words: &[u64]) -> SymbolChain {
     made.planes(start.floats, c.agc.iter_mut());
     made.planes(start.floats, c.clock.ring.iter_mut());
     made.planes(start.floats, c.equalizer.weights.iter_mut());
-    c.carrier.sequence = detector(&start, &mut made);
+    c.carrier.sequence = detector(&start, Tracking::Lms, &mut made);
     c.signal.previous = made.point(start.floats);
     made.planes(start.floats, c.signal.ring.iter_mut());
     c
@@ -294,6 +295,7 @@ impl List {
             write: self.random.below(32),
             filled: [self.random.below(33), 31, 32][(n % 3) as usize],
             previous: self.random.below(5),
+            inverses: made::KEPT,
         };
         let fill = [self.random.below(65), 62, 63, 64][(n / 3 % 4) as usize];
         let bytes = [

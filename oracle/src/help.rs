@@ -68,6 +68,8 @@ const AFTER_STAGES: &str = "
   sequence inputs > LIST | sequence answers < LIST
       runs of the detector, from fresh and from states made from seeds; a line per step, the digest of
       its answer and of the whole state after it
+  sequence-drift inputs > LIST | sequence-drift answers < LIST
+      the same for a detector with the second tracker
   drift inputs > LIST | drift answers < LIST | drift counts < LIST
       runs of the second tracker from given parents and predictions; a line per step, the digest of all
       taps, drifts and inverses after it; or how often the list meets each edge

@@ -65,6 +65,7 @@ mod trellis;
 mod view_list;
 mod words;
 
+use sequence::Tracking;
 use std::process::ExitCode;
 
 type Outcome = Result<(), String>;
@@ -99,7 +100,8 @@ fn run(words: &[&str]) -> Outcome {
         ["clock", rest @ ..] => clock_list::run(rest),
         ["front", rest @ ..] => front_list::run(rest),
         ["oscillator", rest @ ..] => oscillator_list::run(rest),
-        ["sequence", rest @ ..] => sequence_list::run(rest),
+        ["sequence", rest @ ..] => sequence_list::run(Tracking::Lms, rest),
+        ["sequence-drift", rest @ ..] => sequence_list::run(Tracking::Drift, rest),
         ["recordings", rest @ ..] => recording_list::run(rest),
         ["tables", rest @ ..] => tables::run(rest),
         ["resampler", rest @ ..] => resampler_list::run(rest),

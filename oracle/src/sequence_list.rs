@@ -1,11 +1,13 @@
 //! The list of runs that the detector is replayed on, and the upstream's answers to it.
 //!
 //! A run is a row of 8-byte words: what is asked; the seed of its state; the kinds of its floats and
-//! of its costs, place, fill and previous symbol (0, or 1 and the symbol), a byte each; the number of
-//! steps; and for each step the input, its real part in the low half, and 1 where it is reliable. The
-//! state is made from the seed as `detector` does it; with both kinds 0 it is a fresh one. What is
-//! asked: 0, a line per step, the digest of its answer and of the whole state after it; 1, a line per
-//! step, 0 or `01`, dibit and two reliabilities, a byte each.
+//! of its costs, place, fill, previous symbol (0, or 1 and the symbol) and the kind of its inverses, a
+//! byte each; the number of steps; and for each step the input, its real part in the low half, and 1
+//! where it is reliable. The state is made from the seed as `detector` does it; with all kinds 0 it is
+//! a fresh one. What is asked: 0, a line per step, the digest of its answer and of the whole state
+//! after it; 1, a line per step, 0 or `01`, dibit and two reliabilities, a byte each.
+//!
+//! There are two lists, one for each tracker. The first tracker has no inverses.
 
 use crate::helpers::bits32;
 use crate::list::folded;
@@ -14,15 +16,16 @@ use crate::random::Random;
 use crate::routines::{cosine, sine};
 use crate::samples::word64;
 use crate::sequence::{Sequence, Tracking, SYMBOLS};
+use crate::tracker::{by_quad, by_tap, mixed_drift, mixed_planes};
 use crate::Complex32;
 use std::io::{self, BufWriter, Read, Write};
 
 const HEAD: usize = 4;
 
-pub fn run(words: &[&str]) -> Result<(), String> {
+pub fn run(tracking: Tracking, words: &[&str]) -> Result<(), String> {
     match words {
-        ["inputs"] => write_inputs(),
-        ["answers"] => write_answers(),
+        ["inputs"] => write_inputs(tracking),
+        ["answers"] => write_answers(tracking),
         _ => Err("inputs or answers".into()),
     }
 }
@@ -36,13 +39,20 @@ pub struct Start {
     pub write: u64,
     pub filled: u64,
     pub previous: u64,
+    pub inverses: u64,
 }
 
 impl Start {
     pub fn word(&self) -> u64 {
-        let bytes = [self.floats, self.costs, self.write, self.filled];
-        let low = bytes.iter().rev().fold(0, |word, byte| word << 8 | byte);
-        low | self.previous << 32
+        let bytes = [
+            self.floats,
+            self.costs,
+            self.write,
+            self.filled,
+            self.previous,
+            self.inverses,
+        ];
+        bytes.iter().rev().fold(0, |word, byte| word << 8 | byte)
     }
 
     pub fn from_words(seed: u64, word: u64) -> Self {
@@ -54,19 +64,24 @@ impl Start {
             write: byte(2),
             filled: byte(3),
             previous: byte(4),
+            inverses: byte(5),
         }
     }
 }
 
-/// The detector of a start: channels, costs, parents, records, combined observation and noise from
-/// the seed, in this order.
-pub fn detector(start: &Start, made: &mut Made) -> Sequence {
-    let mut s = Sequence::new(Tracking::Lms);
+/// The detector of a start: channels, the second tracker's drifts and inverses, costs, parents,
+/// records, combined observation and noise from the seed, in this order.
+pub fn detector(start: &Start, tracking: Tracking, made: &mut Made) -> Sequence {
+    let mut s = Sequence::new(tracking);
     s.write = start.write as usize;
     s.filled = start.filled as usize;
     s.previous = start.previous.checked_sub(1).map(|k| k as usize);
     let floats = start.floats;
-    made.planes(floats, by_tap(&mut s).into_iter());
+    made.planes(floats, by_tap(&mut s.channels).into_iter());
+    if tracking == Tracking::Drift {
+        made.planes(floats, by_tap(&mut s.drift.drift).into_iter());
+        made.planes(start.inverses, by_quad(&mut s.drift.inverse).into_iter());
+    }
     for cost in &mut s.costs {
         *cost = made.part(start.costs, *cost);
     }
@@ -86,28 +101,18 @@ pub fn detector(start: &Start, made: &mut Made) -> Sequence {
     s
 }
 
-/// The channels tap by tap.
-fn by_tap(s: &mut Sequence) -> Vec<&mut Complex32> {
-    let mut taps: [Vec<&mut Complex32>; 4] = Default::default();
-    for channel in &mut s.channels {
-        for (tap, value) in channel.iter_mut().enumerate() {
-            taps[tap].push(value);
-        }
-    }
-    taps.into_iter().flatten().collect()
-}
-
 /// The digest with the whole state of a detector: place, fill, previous symbol, combined observation,
-/// noise, channels by tap, costs, parents and records.
+/// noise, channels by tap, the second tracker's drifts and inverses, costs, parents and records.
 pub fn mixed_detector(h: u64, s: &mut Sequence) -> u64 {
     let previous = s.previous.map_or(0, |k| 1 + k as u64);
     let place = [s.write as u64, s.filled as u64, previous];
     let h = mixed_point(place.into_iter().fold(h, folded), s.combined);
     let h = folded(h, bits32(s.noise));
-    let taps = by_tap(s);
-    let real: Vec<u64> = taps.iter().map(|z| bits32(z.real)).collect();
-    let imaginary: Vec<u64> = taps.iter().map(|z| bits32(z.imaginary)).collect();
-    let h = real.into_iter().chain(imaginary).fold(h, folded);
+    let h = mixed_planes(h, &by_tap(&mut s.channels));
+    let h = match s.tracking {
+        Tracking::Lms => h,
+        Tracking::Drift => mixed_drift(h, &mut s.drift),
+    };
     let h = s.costs.iter().map(|cost| bits32(*cost)).fold(h, folded);
     let parents = s.history.iter().flatten();
     let h = parents.map(|parent| *parent as u64).fold(h, folded);
@@ -144,7 +149,7 @@ struct Step {
     reliable: bool,
 }
 
-fn write_answers() -> Result<(), String> {
+fn write_answers(tracking: Tracking) -> Result<(), String> {
     let mut bytes = Vec::new();
     io::stdin()
         .read_to_end(&mut bytes)
@@ -160,7 +165,7 @@ fn write_answers() -> Result<(), String> {
         }
         let (steps, after) = body.split_at(count);
         let start = Start::from_words(head[1], head[2]);
-        let mut detector = detector(&start, &mut Made::new(start.seed));
+        let mut detector = detector(&start, tracking, &mut Made::new(start.seed));
         for words in steps.chunks_exact(2) {
             let line = answer(&mut detector, head[0], step(words));
             writeln!(output, "{line:016x}").map_err(|e| e.to_string())?;
@@ -190,13 +195,24 @@ fn answer(s: &mut Sequence, asked: u64, step: Step) -> u64 {
     mixed_detector(h, s)
 }
 
-fn write_inputs() -> Result<(), String> {
+fn write_inputs(tracking: Tracking) -> Result<(), String> {
     let mut list = List {
         words: Vec::new(),
-        random: Random::new(8),
+        random: Random::new(match tracking {
+            Tracking::Lms => 8,
+            Tracking::Drift => 13,
+        }),
     };
-    list.from_fresh();
-    list.handed_in();
+    match tracking {
+        Tracking::Lms => {
+            list.from_fresh();
+            list.handed_in();
+        }
+        Tracking::Drift => {
+            list.drift_from_fresh();
+            list.drift_handed_in();
+        }
+    }
     let mut output = BufWriter::new(io::stdout());
     for word in list.words {
         output
@@ -252,9 +268,37 @@ impl List {
         self.run(0, Start::default(), &noisy);
         let echoing = self.signal(120, ECHOES, 0.03, -0.02);
         self.run(0, Start::default(), &echoing);
-        self.faded();
-        self.huge();
-        self.strange();
+        self.faded(160);
+        self.huge(88);
+        self.strange(90);
+    }
+
+    /// Fewer steps than the first tracker's, each of four times as many numbers.
+    fn drift_from_fresh(&mut self) {
+        let nothing = Step {
+            input: Complex32::default(),
+            reliable: false,
+        };
+        self.run(1, Start::default(), &[nothing; 40]);
+        let moving = self.signal(200, ECHOES, 0.03, 0.1);
+        self.run(1, Start::default(), &moving);
+        let mut missing = self.signal(40, ECHOES, 0.03, -0.05);
+        for step in &mut missing {
+            step.reliable = self.random.below(5) != 0;
+        }
+        self.run(0, Start::default(), &missing);
+        let noisy = self.signal(40, DIRECT, 0.35, 0.01);
+        self.run(0, Start::default(), &noisy);
+        self.unchanging();
+        self.faded(60);
+        self.huge(40);
+        self.strange(45);
+    }
+
+    /// The same symbol again and again, which leaves most of the inverse to grow until it is renewed.
+    fn unchanging(&mut self) {
+        let first = self.signal(1, DIRECT, 0.0, 0.0);
+        self.run(0, Start::default(), &first.repeat(45));
     }
 
     /// Random symbols over a channel that turns by `turn` a symbol.
@@ -289,8 +333,8 @@ impl List {
     }
 
     /// A level that falls to nothing and comes back, unreliable where it is low.
-    fn faded(&mut self) {
-        let mut steps = self.signal(160, ECHOES, 0.02, 0.0);
+    fn faded(&mut self, count: usize) {
+        let mut steps = self.signal(count, ECHOES, 0.02, 0.0);
         for (n, step) in steps.iter_mut().enumerate() {
             let level = (n as f32 % 50.0 - 25.0).abs() / 25.0;
             step.input.real *= level;
@@ -300,10 +344,10 @@ impl List {
         self.run(0, Start::default(), &steps);
     }
 
-    fn huge(&mut self) {
-        let mut steps = self.signal(88, DIRECT, 0.05, 0.0);
+    fn huge(&mut self, count: usize) {
+        let mut steps = self.signal(count, DIRECT, 0.05, 0.0);
         for (n, step) in steps.iter_mut().enumerate() {
-            let level = LEVELS[n / 11] as f32;
+            let level = LEVELS[n * LEVELS.len() / count] as f32;
             step.input.real *= level;
             step.input.imaginary *= level;
         }
@@ -311,8 +355,8 @@ impl List {
     }
 
     /// Inputs that are no ordinary numbers among ordinary ones.
-    fn strange(&mut self) {
-        let mut steps = self.signal(90, ECHOES, 0.1, 0.0);
+    fn strange(&mut self, count: usize) {
+        let mut steps = self.signal(count, ECHOES, 0.1, 0.0);
         for step in &mut steps {
             if self.random.below(8) == 0 {
                 step.input.real = STRANGE[self.random.below(6) as usize];
@@ -344,10 +388,29 @@ impl List {
                     write,
                     filled,
                     previous: self.random.below(5),
+                    inverses: made::KEPT,
                 };
                 let step = self.any_step();
                 self.run(0, start, &[step]);
             }
+        }
+    }
+
+    /// One step from states of each fill, with floats of each kind, and inverses of each kind or fresh.
+    fn drift_handed_in(&mut self) {
+        for n in 0..132 {
+            let inverses = [made::KEPT, self.random.below(1 + made::SIGNED)];
+            let start = Start {
+                seed: self.random.below(1 << 32),
+                floats: 1 + n % made::SIGNED,
+                costs: 1 + self.random.below(made::SIGNED),
+                write: self.random.below(32),
+                filled: n % 33,
+                previous: self.random.below(5),
+                inverses: inverses[self.random.below(2) as usize],
+            };
+            let step = self.any_step();
+            self.run(0, start, &[step]);
         }
     }
 
