@@ -37,27 +37,27 @@ pub fn run(words: &[&str]) -> Result<(), String> {
 }
 
 #[derive(Clone, Copy, Default)]
-struct Complex64 {
-    real: f64,
-    imaginary: f64,
+pub struct Complex64 {
+    pub real: f64,
+    pub imaginary: f64,
 }
 
 impl Complex64 {
-    fn plus(self, other: Self) -> Self {
+    pub fn plus(self, other: Self) -> Self {
         Self {
             real: self.real + other.real,
             imaginary: self.imaginary + other.imaginary,
         }
     }
 
-    fn times(self, other: Self) -> Self {
+    pub fn times(self, other: Self) -> Self {
         Self {
             real: self.real * other.real - self.imaginary * other.imaginary,
             imaginary: self.real * other.imaginary + self.imaginary * other.real,
         }
     }
 
-    fn scaled(self, gain: f64) -> Self {
+    pub fn scaled(self, gain: f64) -> Self {
         Self {
             real: self.real * gain,
             imaginary: self.imaginary * gain,
@@ -66,19 +66,19 @@ impl Complex64 {
 }
 
 /// The point of size 1 at `turns` of a circle, whole turns aside.
-fn turned(turns: f64) -> Complex64 {
+pub fn turned(turns: f64) -> Complex64 {
     let (imaginary, real) = sine_cosine(2.0 * PI * (turns - turns.floor()));
     Complex64 { real, imaginary }
 }
 
 /// A stream of random dibits and its points.
-struct Stream {
-    dibits: Vec<u8>,
+pub struct Stream {
+    pub dibits: Vec<u8>,
     points: Vec<Complex64>,
 }
 
 impl Stream {
-    fn new(seed: u64, symbols: usize) -> Self {
+    pub fn new(seed: u64, symbols: usize) -> Self {
         let mut random = Random::new(seed);
         let (mut dibits, mut points) = (Vec::new(), Vec::new());
         let mut eighths = 0;
@@ -92,7 +92,7 @@ impl Stream {
     }
 
     /// The shaped signal at a time in symbols.
-    fn at(&self, time: f64) -> Complex64 {
+    pub fn at(&self, time: f64) -> Complex64 {
         let nearest = time.floor() as i64;
         let mut value = Complex64::default();
         for place in nearest - 2 * REACH..=nearest + 1 {
@@ -140,7 +140,7 @@ fn pulse(t: f64) -> f64 {
 }
 
 /// A random number of mean 0 and deviation 1: twelve even ones, less their mean.
-fn deviate(random: &mut Random) -> f64 {
+pub fn deviate(random: &mut Random) -> f64 {
     let sum: u64 = (0..12).map(|_| random.below(1 << 32)).sum();
     sum as f64 / (1_u64 << 32) as f64 - 6.0
 }

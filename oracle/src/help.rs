@@ -90,6 +90,10 @@ const AFTER_STAGES: &str = "
   story < SAMPLES
       a neighbour that goes off, silence, a weak channel: the dibits, and what is left of the neighbour
       (src/story.rs says of which signal)
+  fading [OPTION VALUE ..]
+      the errors of both streams over two fading paths, a line for each Doppler shift and delay: bit
+      errors, windows in which a stream moved, wrong dibits with both reliabilities above 128:
+      --seed N (1)  --symbols N (101000)  --window DIBITS (200, aligned at once)
   bench < FOUR WORDS
       what bench/run times
   size RATE

@@ -32,6 +32,7 @@ mod drift_edges;
 mod drift_list;
 mod equalizer_list;
 mod decimator_list;
+mod fading;
 mod front_list;
 mod generator;
 mod help;
@@ -106,6 +107,7 @@ fn run(words: &[&str]) -> Outcome {
         ["tables", rest @ ..] => tables::run(rest),
         ["resampler", rest @ ..] => resampler_list::run(rest),
         ["taps", rest @ ..] => taps::run(rest),
+        ["fading", rest @ ..] => fading::run(rest),
         ["bench"] => bench::run(),
         ["size", rate] => bench::size(rate),
         ["script", rest @ ..] => script_writer::run(rest),
