@@ -1,5 +1,5 @@
-// The detector's state for the replay programs: made from a seed, and digested whole. Test machinery:
-// it is proved safe and ending, and that what it makes may be run.
+// The detector's state for the replay programs: made from a seed, and digested whole; and a run's head
+// and inputs. Test machinery: it is proved safe and ending, and that what it makes may be run.
 ghost use mathlib.Core.Path.{_≡_};
 ghost use Prim.Native.Nat.{_<_, _≤_};
 ghost use lib.ListN.{length};
@@ -11,23 +11,57 @@ use answers::soft::Slot;
 use answers::soft::Soft;
 use answers::walk::Answer;
 use answers::walk::Previous;
+use channels::STATES;
 use complex::Complex32;
 use complex::Observation;
+use numbers::bits::float32;
 use replay::mixed;
+use replay::mixed_bytes;
 use replay::mixed_flag;
 use replay::mixed_float32;
+use replay::mixed_plane;
 use replay::next;
 use replay::part;
+use replay::word;
 use sequence::step::Detected;
 use sequence::step::DetectorPlace;
 
-// The kinds of floats and of costs, place, fill and previous symbol (0, or 1 and the symbol).
+// A run of steps: what is asked, its state's seed and start, and how many steps follow.
+pub struct Request {
+    pub asked: u64,
+    pub seed: u64,
+    pub start: u64,
+    pub count: u64,
+}
+
+pub fn decoded(head: &[u8]) -> Request
+    requires { ⌜ 32 ≤ length (now head) ⌝ }
+{
+    Request {
+        asked: word(head, 0),
+        seed: word(head, 8),
+        start: word(head, 16),
+        count: word(head, 24),
+    }
+}
+
+// A step's input, its real part in the low half.
+pub fn input(a: u64) -> Complex32 {
+    Complex32 {
+        real: float32((a % 0x1_0000_0000) as u32),
+        imaginary: float32((a / 0x1_0000_0000) as u32),
+    }
+}
+
+// The kinds of floats and of costs, place, fill, previous symbol (0, or 1 and the symbol) and the kind
+// of the second tracker's inverses.
 pub struct Start {
     pub floats: u64,
     pub costs: u64,
     pub write: usize,
     pub filled: usize,
     pub previous: usize,
+    pub inverses: u64,
 }
 
 // A made value, and the seed after it.
@@ -59,6 +93,7 @@ pub fn started(word: u64) -> Start {
         write: byte(word, 2) as usize,
         filled: byte(word, 3) as usize,
         previous: byte(word, 4) as usize,
+        inverses: byte(word, 5),
     }
 }
 
@@ -225,4 +260,22 @@ pub fn shown(answer: Answer) -> u64 {
             0x100_0000 + 0x1_0000 * (dibit as u64) + 0x100 * (first as u64) + (second as u64)
         }
     }
+}
+
+// The digest of a step's answer.
+pub fn told(d: Detected) -> u64 {
+    let answer = d.answer;
+    let equalized = d.equalized;
+    let h = mixed(0, shown(answer));
+    mixed_point(mixed_float32(mixed_float32(h, d.phase), d.power), equalized)
+}
+
+// The digest with what the detector stores of its steps.
+pub fn mixed_steps(
+    h: u64,
+    costs: &[f32; STATES],
+    parents: &[u8; PARENTS],
+    records: Records,
+) -> u64 {
+    mixed_records(mixed_bytes(mixed_plane(h, costs), parents), records)
 }

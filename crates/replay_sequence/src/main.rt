@@ -1,48 +1,29 @@
 // Runs the detector on each run of steps from standard input, from the run's own state, and writes a
 // line for each step: the digest of its answer and of the whole state after it, or the answer itself,
 // in the order of the list that the oracle prints.
-ghost use Prim.Native.Nat.{_<_, _≤_};
-ghost use lib.ListN.{length};
 ghost use Rattle.lms_detector.specs.Ranges.{Ranged};
 use answers::PARENTS;
 use answers::soft::Records;
 use channels::CHANNELS;
 use channels::STATES;
-use complex::Complex32;
-use numbers::bits::float32;
 use replay::fill;
-use replay::mixed;
-use replay::mixed_bytes;
-use replay::mixed_float32;
 use replay::mixed_plane;
 use replay::print_line;
 use replay::word;
+use replay_detector::Request;
+use replay_detector::decoded;
 use replay_detector::fill_parents;
+use replay_detector::input;
 use replay_detector::made_place;
 use replay_detector::made_records;
 use replay_detector::mixed_place;
-use replay_detector::mixed_point;
-use replay_detector::mixed_records;
+use replay_detector::mixed_steps;
 use replay_detector::shown;
 use replay_detector::started;
 use replay_detector::stored;
+use replay_detector::told;
 use sequence::step::Detected;
 use sequence::step::DetectorPlace;
-
-fn input(a: u64) -> Complex32 {
-    Complex32 {
-        real: float32((a % 0x1_0000_0000) as u32),
-        imaginary: float32((a / 0x1_0000_0000) as u32),
-    }
-}
-
-// The digest of a step's answer.
-fn told(d: Detected) -> u64 {
-    let answer = d.answer;
-    let equalized = d.equalized;
-    let h = mixed(0, shown(answer));
-    mixed_point(mixed_float32(mixed_float32(h, d.phase), d.power), equalized)
-}
 
 fn tell(
     asked: u64,
@@ -61,8 +42,7 @@ fn tell(
     }
     let h = mixed_place(told(d), place);
     let planes = mixed_plane(mixed_plane(h, real), imaginary);
-    let all = mixed_bytes(mixed_plane(planes, costs), parents);
-    print_line(mixed_records(all, records), 16);
+    print_line(mixed_steps(planes, costs, parents, records), 16);
 }
 
 // Steps, as many as the run says or as there are.
@@ -99,24 +79,6 @@ fn run(
         tell(asked, d, records, real, imaginary, costs, parents);
         p = d.place;
         left -= 1;
-    }
-}
-
-struct Request {
-    asked: u64,
-    seed: u64,
-    start: u64,
-    count: u64,
-}
-
-fn decoded(head: &[u8]) -> Request
-    requires { ⌜ 32 ≤ length (now head) ⌝ }
-{
-    Request {
-        asked: word(head, 0),
-        seed: word(head, 8),
-        start: word(head, 16),
-        count: word(head, 24),
     }
 }
 
