@@ -1,0 +1,5 @@
+pub mod Detector
+pub mod Ranges
+pub mod Lends
+pub mod Laws
+pub mod Theorems

@@ -1,0 +1,4 @@
+pub mod Drift
+pub mod Layout
+pub mod Lends
+pub mod Laws

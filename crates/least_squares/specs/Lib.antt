@@ -1,0 +1,4 @@
+pub mod Lanes
+pub mod LeastSquares
+pub mod Layout
+pub mod Laws
