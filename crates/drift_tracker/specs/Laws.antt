@@ -12,7 +12,7 @@ use lib.Ieee.{Float, nan, binary32, add}
 use borrow.Author.Tests.{eq-eqb, ne-eqb}
 use Rattle.laws.specs.Ring.{lt-or-ge}
 use Rattle.laws.specs.Turns.{turns, turns-start, turns-step}
-use Rattle.laws.specs.Places.{upto, upto-at, upto-same, length-upto}
+use Rattle.laws.specs.Places.{upto, upto-at, upto-is, upto-same, length-upto}
 use Rattle.channels.specs.Stripes.{striped}
 use Rattle.complex.specs.declared.Complex32.{Complex32}
 use Rattle.complex.specs.Complex.{zeroPair, differenceOf}
@@ -20,10 +20,10 @@ use Rattle.channels.specs.Channels.{symbolOf, Parents}
 use Rattle.complex.specs.Planes.{Planes, pointAt}
 use Rattle.least_squares.specs.Lanes.{pairAt, putPair, pairsOf, inLanes, lanesOf, inverseIn, rowIn, fourIn, pairIn, realIn, stateAt, inverseOf, inversesOf, inGroup}
 use Rattle.lane_sums.specs.LaneLaws.{pairsTo, pairs-end, pairs-is, pairs-at, pairs-length, lane-is, in-lane, lane-at, put-length, put-same, put-other, sweptTo, swept-length, swept-left, swept-start, swept-turn, swept-end}
-use Rattle.least_squares.specs.LeastSquares.{numberOf, tableOf, rightAdded, foretoldOf, crossedOf, gainOf, weightOf, gainFor, isUsable, movedOf, settledOf, renewedOf, Model, learntOf}
+use Rattle.least_squares.specs.LeastSquares.{numberOf, tableOf, rightAdded, foretoldOf, crossedOf, gainOf, weightOf, gainFor, isUsable, movedTap, movedOf, settledOf, renewedOf, Model, learntOf}
 use Rattle.settling.specs.Settling.{inverseAfter}
 use Rattle.drift_tracker.specs.Drift.{Memory, tapsAt, driftAt, modelAt, parentOf, symbolsOf, driftsOf, advancedOf, modelAfter, laidOut, followedOf}
-use Rattle.drift_tracker.specs.Layout.{joinedOf, splitOf, inFours, modelIn, learntIn, parentIn, learntFrom, inheritedFrom}
+use Rattle.drift_tracker.specs.Layout.{joinedOf, splitOf, inFours, movedFrom, learntWith, learntIn, heirOf, learntFrom}
 
 -- ---- each tap goes on by its drift
 module _ (d : List Float) (at : ℕ → ℕ) where
@@ -62,13 +62,30 @@ pub joined-is : (c : Planes) (k : ℕ) (l m : List Float) → m ≡ pairsTo 256 
 unfolding joinedOf
 joined-is c k l m h e s = pairs-end 256 (pointAt c) k l m h e s
 
--- ---- taken into lanes
-pub take-is : (all : List Float) (parents : List ℕ) (g t l p : ℕ) (z : Complex32) → t < 4 → l < 16 → p ≡ parentOf parents (16 * g + l) → z ≡ pairAt 256 all (64 * t + p)
-    → z ≡ inLanes (λ l. driftAt all (parentOf parents (16 * g + l))) (16 * t + l)
+-- ---- taken from the parents
+pub inherit-is : (all : List Float) (parents : List ℕ) (k p : ℕ) (z : Complex32) → k < 256 → p ≡ parentOf parents (k % 64) → z ≡ pairAt 256 all (64 * (k / 64) + p)
+    → z ≡ numberOf (driftAt all (parentOf parents (k % 64))) (k / 64)
 unfolding driftAt
-take-is all parents g t l p z h b q e =
-    e ∙ ap (λ (p : ℕ). pairAt 256 all (64 * t + p)) q
-    ∙ sym (in-lane (λ l. driftAt all (parentOf parents (16 * g + l))) t l b ∙ upto-at (λ t. pairAt 256 all (64 * t + parentOf parents (16 * g + l))) 4 t zeroPair h)
+inherit-is all parents k p z h q e =
+    e ∙ ap (λ (p : ℕ). pairAt 256 all (64 * (k / 64) + p)) q
+    ∙ sym (upto-at (λ t. pairAt 256 all (64 * t + parentOf parents (k % 64))) 4 (k / 64) zeroPair (omega arith))
+
+pub drifts-end : (f : ℕ → List Complex32) (k : ℕ) (l m : List Float) → m ≡ pairsTo 256 (λ k. numberOf (f (k % 64)) (k / 64)) k l → k ≡ 256 → length l ≡ 512 → m ≡ driftsOf f
+unfolding driftsOf
+drifts-end f k l m h e s = pairs-end 256 (λ k. numberOf (f (k % 64)) (k / 64)) k l m h e s
+
+-- what stands there of a state
+drifts-at : (f : ℕ → List Complex32) (all : List Float) (s : ℕ) → all ≡ driftsOf f → s < 64 → length (f s) ≡ 4 → driftAt all s ≡ f s
+unfolding driftsOf driftAt
+drifts-at f all s e h len =
+    sym (upto-is (λ t. pairAt 256 all (64 * t + s)) 4 zeroPair (f s) len (λ t b.
+    let r : (64 * t + s) % 64 ≡ s = omega arith in
+    let d : (64 * t + s) / 64 ≡ t = omega arith in
+    sym (ap (λ (z : List Float). pairAt 256 z (64 * t + s)) e ∙ pairs-at 256 (λ k. numberOf (f (k % 64)) (k / 64)) (64 * t + s) (omega arith) ∙ (λ i. numberOf (f (r i)) (d i)))))
+
+drift-length : (all : List Float) (s : ℕ) → length (driftAt all s) ≡ 4
+unfolding driftAt
+drift-length all s = length-upto _ 4
 
 -- ---- the symbols
 pub newest-is : (s p t : ℕ) (z : Complex32) → t ≡ 0 → z ≡ symbolOf (s % 4) → z ≡ numberOf (symbolsOf s p) t
@@ -95,7 +112,7 @@ same-or-other a b =
     (λ g. ⊎-elim (λ l. inl (omega arith)) (λ o. inr (λ e. omega arith)) (lt-or-ge a (b + 1)))
     (lt-or-ge a b)
 
--- ---- put back
+-- ---- moved in place
 abbrev putTurn : ℕ → ℕ
 putTurn k = 16 * (k / 64) + k % 64 % 16
 
@@ -124,9 +141,9 @@ module _ (t g l : ℕ) (h : g < 4) (b : l < 16) where
   place-turn : putTurn place ≡ 16 * t + l
   place-turn = rw (place-row, place-lane)
 
-module _ (room : List Float) (g : ℕ) (all : List Float) where
+module _ (f : ℕ → List Complex32) (g : ℕ) (all : List Float) where
   abbrev putNumber : ℕ → Complex32
-  putNumber k = cond (eqb (k % 64 / 16) g) (numberOf (fourIn room (k % 64 % 16)) (k / 64)) (pairAt 256 all k)
+  putNumber k = cond (eqb (k % 64 / 16) g) (numberOf (f (k % 64)) (k / 64)) (pairAt 256 all k)
 
   unfoldable pub putTo : ℕ → List Float
   putTo n = sweptTo 256 putTurn putNumber n all
@@ -138,8 +155,15 @@ module _ (room : List Float) (g : ℕ) (all : List Float) where
   pub put-none : (n : ℕ) (m : List Float) → m ≡ putTo n → m ≡ putTo (n + 0)
   put-none n m e = let q : n ≡ n + 0 = omega arith in e ∙ ap putTo q
 
-  pub put-step : (t l : ℕ) (m : List Float) (z : Complex32) → t < 4 → g < 4 → l < 16 → z ≡ pairAt 64 room (16 * t + l) → m ≡ putTo (16 * t + l)
-      → set (set m (64 * t + 16 * g + l) (z .real)) (64 * t + 16 * g + l + 256) (z .imaginary) ≡ putTo (16 * t + (l + 1))
+  -- the place of a turn is as it was
+  put-kept : (t l : ℕ) (m : List Float) → t < 4 → g < 4 → l < 16 → m ≡ putTo (16 * t + l) → pairAt 256 m (64 * t + 16 * g + l) ≡ pairAt 256 all (64 * t + 16 * g + l)
+  unfolding putTo
+  put-kept t l m ht hg hl h =
+      let q = place-turn t g l hg hl in
+      swept-left 256 putTurn putNumber (16 * t + l) all m (64 * t + 16 * g + l) h (omega arith) (omega (arith, q))
+
+  put-step : (t l : ℕ) (m : List Float) (z : Complex32) → t < 4 → g < 4 → l < 16 → z ≡ numberOf (f (16 * g + l)) t → m ≡ putTo (16 * t + l)
+      → putPair 256 m (64 * t + 16 * g + l) z ≡ putTo (16 * t + (l + 1))
   unfolding putTo
   put-step t l m z ht hg hl e h =
       let more : 16 * t + l + 1 ≡ 16 * t + (l + 1) = omega arith in
@@ -156,11 +180,12 @@ module _ (room : List Float) (g : ℕ) (all : List Float) where
           let n : k % 64 % 16 ≡ l = r .1 in
           ⊎-elim
           (λ same. let p = put-place k g t l d n same in
+          let s : k % 64 ≡ 16 * g + l = ap (λ (x : ℕ). x % 64) p ∙ place-rest t g l hg hl in
           ap (pairAt 256 (putPair 256 m (64 * t + 16 * g + l) z)) p
           ∙ put-same 256 m (64 * t + 16 * g + l) z (omega arith) (swept-length 256 putTurn putNumber (16 * t + l) all m h)
           ∙ e
-          ∙ sym (lane-at 64 4 room l t ht)
-          ∙ rw (eq-eqb (k % 64 / 16) g same, d, n))
+          ∙ (λ i. numberOf (f (sym s i)) (sym d i))
+          ∙ rw (eq-eqb (k % 64 / 16) g same))
           (λ other. put-other 256 m (64 * t + 16 * g + l) z k (omega arith) b (λ p. other (ap (λ (x : ℕ). x % 64 / 16) p ∙ place-group t g l hg hl))
           ∙ swept-left 256 putTurn putNumber (16 * t + l) all m k h b (omega arith)
           ∙ rw (ne-eqb (k % 64 / 16) g other))
@@ -169,11 +194,36 @@ module _ (room : List Float) (g : ℕ) (all : List Float) where
   pub put-row : (t l : ℕ) (m : List Float) → m ≡ putTo (16 * t + l) → l ≡ 16 → m ≡ putTo (16 * (t + 1))
   put-row t l m e h = let q : 16 * t + l ≡ 16 * (t + 1) = omega arith in e ∙ ap putTo q
 
-  pub put-end : (n : ℕ) (m : List Float) → m ≡ putTo n → n ≡ 64 → m ≡ inFours g (λ s. fourIn room (s % 16)) all
+  pub put-end : (n : ℕ) (m : List Float) → m ≡ putTo n → n ≡ 64 → m ≡ inFours g f all
   unfolding putTo inFours
   put-end n m h e = swept-end 256 putTurn putNumber n all m h (λ k b. omega arith)
 
--- ---- lengths, and the parts of what a state learns
+-- one number of the lane l
+module _ (all gain : List Float) (from : ℕ) (error d : List Float) (g t l : ℕ) (ht : t < 4) (hf : from ≤ 4) (hg : g < 4) (hl : l < 16) where
+  abbrev moves : ℕ → List Complex32
+  moves = movedFrom all gain from error d
+
+  moved-number : numberOf (moves (16 * g + l)) t
+      ≡ movedTap (pairAt 256 all (64 * t + 16 * g + l)) (pairAt 128 gain (16 * (t + from) + l)) (pairAt 16 error l) (isUsable (getD d l nan))
+  unfolding movedFrom movedOf driftAt pairIn realIn
+  moved-number =
+      let q : (16 * g + l) % 16 ≡ l = omega arith in
+      let r : 64 * t + (16 * g + l) ≡ 64 * t + 16 * g + l = omega arith in
+      upto-at (λ t. movedTap (numberOf (driftAt all (16 * g + l)) t) (numberOf (rowIn gain ((16 * g + l) % 16)) (t + from)) (pairAt 16 error ((16 * g + l) % 16)) (isUsable (getD d ((16 * g + l) % 16) nan))) 4 t zeroPair ht
+      ∙ (λ i. movedTap
+      (upto-at (λ t. pairAt 256 all (64 * t + (16 * g + l))) 4 t zeroPair ht i)
+      (numberOf (rowIn gain (q i)) (t + from)) (pairAt 16 error (q i)) (isUsable (getD d (q i) nan)))
+      ∙ (λ i. movedTap (pairAt 256 all (r i)) (lane-at 128 8 gain l (t + from) (omega arith) i) (pairAt 16 error l) (isUsable (getD d l nan)))
+
+  pub pull-step : (m : List Float) (tap by miss z : Complex32) (usable : Bool) → tap ≡ pairAt 256 m (64 * t + 16 * g + l) → by ≡ pairAt 128 gain (16 * (t + from) + l)
+      → miss ≡ pairAt 16 error l → usable ≡ isUsable (getD d l nan) → z ≡ movedTap tap by miss usable → m ≡ putTo moves g all (16 * t + l)
+      → set (set m (64 * t + 16 * g + l) (z .real)) (64 * t + 16 * g + l + 256) (z .imaginary) ≡ putTo moves g all (16 * t + (l + 1))
+  pull-step m tap by miss z usable a b c u e h =
+      put-step moves g all t l m z ht hg hl
+      (e ∙ (λ i. movedTap ((a ∙ put-kept moves g all t l m ht hg hl h) i) (b i) (c i) (u i)) ∙ sym moved-number)
+      h
+
+-- ---- lengths
 foretold-length : (p : List Complex32) → length (foretoldOf p) ≡ 64
 unfolding foretoldOf rightAdded tableOf
 foretold-length p = length-upto _ 64
@@ -185,26 +235,6 @@ gain-length p u = length-upto _ 8
 crossed-length : (p u : List Complex32) → length (crossedOf p u) ≡ 8
 unfolding crossedOf
 crossed-length p u = length-upto _ 8
-
-moved-length : (h gain : List Complex32) (from : ℕ) (error : Complex32) (usable : Bool) → length (movedOf h gain from error usable) ≡ 4
-unfolding movedOf
-moved-length h gain from error usable = length-upto _ 4
-
-module _ (m : Model) (u : List Complex32) (error : Complex32) where
-  abbrev later : List Complex32
-  later = foretoldOf (m .inverse)
-
-  learnt-taps : learntOf m u error .taps ≡ movedOf (m .taps) (gainFor later u) 0 error (isUsable (weightOf later u))
-  unfolding learntOf
-  learnt-taps = refl
-
-  learnt-drift : learntOf m u error .drift ≡ movedOf (m .drift) (gainFor later u) 4 error (isUsable (weightOf later u))
-  unfolding learntOf
-  learnt-drift = refl
-
-  learnt-inverse : learntOf m u error .inverse ≡ renewedOf (weightOf later u) (settledOf later (gainFor later u) (crossedOf later u))
-  unfolding learntOf
-  learnt-inverse = refl
 
 -- ---- a group of sixteen states
 pub fours-same : (g : ℕ) (f h : ℕ → List Complex32) (l : List Float) → ((n : ℕ) → n < 16 → f (16 * g + n) ≡ h (16 * g + n)) → inFours g f l ≡ inFours g h l
@@ -238,76 +268,68 @@ group-same g f h l same =
     in-state s g h = omega arith
 
 -- ---- what the lanes of a group learn
-module _ (parents : List ℕ) (predictions : Planes) (input : Complex32) (g : ℕ) (w h d u error one gain row weight : List Float)
+module _ (parents : List ℕ) (predictions : Planes) (input : Complex32) (g : ℕ) (w h d u error gain row weight : List Float)
     (is-u : u ≡ lanesOf 64 (λ l. symbolsOf (16 * g + l) (parentOf parents (16 * g + l))))
     (is-error : error ≡ pairsOf 16 (λ l. differenceOf input (pointAt predictions (16 * g + l))))
-    (is-one : one ≡ lanesOf 1024 (λ l. foretoldOf (inverseIn w l)))
-    (is-gain : gain ≡ lanesOf 128 (λ l. gainFor (inverseIn one l) (fourIn u l)))
-    (is-row : row ≡ lanesOf 128 (λ l. crossedOf (inverseIn one l) (fourIn u l)))
-    (is-weight : weight ≡ upto (λ l. weightOf (inverseIn one l) (fourIn u l)) 16) where
+    (is-gain : gain ≡ lanesOf 128 (λ l. gainFor (inverseIn w l) (fourIn u l)))
+    (is-row : row ≡ lanesOf 128 (λ l. crossedOf (inverseIn w l) (fourIn u l)))
+    (is-weight : weight ≡ upto (λ l. weightOf (inverseIn w l) (fourIn u l)) 16) where
   abbrev us : ℕ → List Complex32
   us l = symbolsOf (16 * g + l) (parentOf parents (16 * g + l))
-
-  abbrev ps : ℕ → List Complex32
-  ps l = foretoldOf (inverseIn w l)
 
   symbols-lane : (l : ℕ) → l < 16 → fourIn u l ≡ us l
   symbols-lane l b = lane-is 64 4 us u l is-u refl b refl
 
-  inverse-lane : (l : ℕ) → l < 16 → inverseIn one l ≡ ps l
-  inverse-lane l b = lane-is 1024 64 ps one l is-one refl b (foretold-length (inverseIn w l))
-
-  gain-lane : (l : ℕ) → l < 16 → rowIn gain l ≡ gainFor (ps l) (us l)
+  gain-lane : (l : ℕ) → l < 16 → rowIn gain l ≡ gainFor (inverseIn w l) (us l)
   gain-lane l b =
-      lane-is 128 8 (λ l. gainFor (inverseIn one l) (fourIn u l)) gain l is-gain refl b (gain-length (inverseIn one l) (fourIn u l))
-      ∙ (λ i. gainFor (inverse-lane l b i) (symbols-lane l b i))
+      lane-is 128 8 (λ l. gainFor (inverseIn w l) (fourIn u l)) gain l is-gain refl b (gain-length (inverseIn w l) (fourIn u l))
+      ∙ ap (gainFor (inverseIn w l)) (symbols-lane l b)
 
-  row-lane : (l : ℕ) → l < 16 → rowIn row l ≡ crossedOf (ps l) (us l)
+  row-lane : (l : ℕ) → l < 16 → rowIn row l ≡ crossedOf (inverseIn w l) (us l)
   row-lane l b =
-      lane-is 128 8 (λ l. crossedOf (inverseIn one l) (fourIn u l)) row l is-row refl b (crossed-length (inverseIn one l) (fourIn u l))
-      ∙ (λ i. crossedOf (inverse-lane l b i) (symbols-lane l b i))
+      lane-is 128 8 (λ l. crossedOf (inverseIn w l) (fourIn u l)) row l is-row refl b (crossed-length (inverseIn w l) (fourIn u l))
+      ∙ ap (crossedOf (inverseIn w l)) (symbols-lane l b)
 
-  weight-lane : (l : ℕ) → l < 16 → getD weight l nan ≡ weightOf (ps l) (us l)
+  weight-lane : (l : ℕ) → l < 16 → getD weight l nan ≡ weightOf (inverseIn w l) (us l)
   weight-lane l b =
-      ap (λ (z : List Float). getD z l nan) is-weight ∙ upto-at (λ l. weightOf (inverseIn one l) (fourIn u l)) 16 l nan b
-      ∙ (λ i. weightOf (inverse-lane l b i) (symbols-lane l b i))
+      ap (λ (z : List Float). getD z l nan) is-weight ∙ upto-at (λ l. weightOf (inverseIn w l) (fourIn u l)) 16 l nan b
+      ∙ ap (weightOf (inverseIn w l)) (symbols-lane l b)
 
   error-lane : (l : ℕ) → l < 16 → pairAt 16 error l ≡ differenceOf input (pointAt predictions (16 * g + l))
   error-lane l b = ap (λ (z : List Float). pairAt 16 z l) is-error ∙ pairs-at 16 (λ l. differenceOf input (pointAt predictions (16 * g + l))) l b
 
-  learnt-lane : (l : ℕ) → l < 16 → learntIn w h d parents predictions input (16 * g + l) ≡ learntOf (modelIn w h d l) (us l) (differenceOf input (pointAt predictions (16 * g + l)))
+  learnt-lane : (l : ℕ) → l < 16 → learntIn w h d parents predictions input (16 * g + l)
+      ≡ learntWith (driftAt h (16 * g + l)) (driftAt d (16 * g + l)) (inverseIn w l) (us l) (differenceOf input (pointAt predictions (16 * g + l)))
   unfolding learntIn
-  learnt-lane l b = let q : (16 * g + l) % 16 ≡ l = omega arith in rw q
-
-  moved-lane : (old t : List Float) (from l : ℕ) → l < 16
-      → t ≡ lanesOf 64 (λ l. movedOf (fourIn old l) (rowIn gain l) from (pairIn error l) (isUsable (realIn weight l)))
-      → fourIn t ((16 * g + l) % 16) ≡ movedOf (fourIn old l) (gainFor (ps l) (us l)) from (differenceOf input (pointAt predictions (16 * g + l))) (isUsable (weightOf (ps l) (us l)))
-  unfolding pairIn realIn
-  moved-lane old t from l b e =
+  learnt-lane l b =
       let q : (16 * g + l) % 16 ≡ l = omega arith in
-      ap (fourIn t) q
-      ∙ lane-is 64 4 (λ l. movedOf (fourIn old l) (rowIn gain l) from (pairAt 16 error l) (isUsable (getD weight l nan))) t l e refl b (moved-length _ _ from _ _)
-      ∙ (λ i. movedOf (fourIn old l) (gain-lane l b i) from (error-lane l b i) (isUsable (weight-lane l b i)))
+      λ i. learntWith (driftAt h (16 * g + l)) (driftAt d (16 * g + l)) (inverseIn w (q i)) (us l) (differenceOf input (pointAt predictions (16 * g + l)))
 
-  pub taps-learnt : (t all new : List Float) → t ≡ lanesOf 64 (λ l. movedOf (fourIn h l) (rowIn gain l) 0 (pairIn error l) (isUsable (realIn weight l)))
-      → new ≡ inFours g (λ s. fourIn t (s % 16)) all → new ≡ inFours g (λ s. learntIn w h d parents predictions input s .taps) all
-  taps-learnt t all new e n = n ∙ fours-same g (λ s. fourIn t (s % 16)) (λ s. learntIn w h d parents predictions input s .taps) all
-      (λ l b. moved-lane h t 0 l b e ∙ sym (ap (λ (m : Model). m .taps) (learnt-lane l b) ∙ learnt-taps (modelIn w h d l) (us l) (differenceOf input (pointAt predictions (16 * g + l)))))
+  moved-lane : (old : List Float) (from l : ℕ) → l < 16 → movedFrom old gain from error weight (16 * g + l)
+      ≡ movedOf (driftAt old (16 * g + l)) (gainFor (inverseIn w l) (us l)) from (differenceOf input (pointAt predictions (16 * g + l))) (isUsable (weightOf (inverseIn w l) (us l)))
+  unfolding movedFrom pairIn realIn
+  moved-lane old from l b =
+      let q : (16 * g + l) % 16 ≡ l = omega arith in
+      (λ i. movedOf (driftAt old (16 * g + l)) (rowIn gain (q i)) from (pairAt 16 error (q i)) (isUsable (getD weight (q i) nan)))
+      ∙ (λ i. movedOf (driftAt old (16 * g + l)) (gain-lane l b i) from (error-lane l b i) (isUsable (weight-lane l b i)))
 
-  pub drift-learnt : (t all new : List Float) → t ≡ lanesOf 64 (λ l. movedOf (fourIn d l) (rowIn gain l) 4 (pairIn error l) (isUsable (realIn weight l)))
-      → new ≡ inFours g (λ s. fourIn t (s % 16)) all → new ≡ inFours g (λ s. learntIn w h d parents predictions input s .drift) all
-  drift-learnt t all new e n = n ∙ fours-same g (λ s. fourIn t (s % 16)) (λ s. learntIn w h d parents predictions input s .drift) all
-      (λ l b. moved-lane d t 4 l b e ∙ sym (ap (λ (m : Model). m .drift) (learnt-lane l b) ∙ learnt-drift (modelIn w h d l) (us l) (differenceOf input (pointAt predictions (16 * g + l)))))
+  pub taps-learnt : (new : List Float) → new ≡ inFours g (movedFrom h gain 0 error weight) h → new ≡ inFours g (λ s. learntIn w h d parents predictions input s .taps) h
+  taps-learnt new n = n ∙ fours-same g (movedFrom h gain 0 error weight) (λ s. learntIn w h d parents predictions input s .taps) h
+      (λ l b. moved-lane h 0 l b ∙ sym (ap (λ (m : Model). m .taps) (learnt-lane l b)))
 
-  pub inverse-learnt : (all new : List Float) → new ≡ inGroup g (inverseAfter one gain row weight) all → new ≡ inGroup g (λ s. learntIn w h d parents predictions input s .inverse) all
-  inverse-learnt all new n = n ∙ group-same g (inverseAfter one gain row weight) (λ s. learntIn w h d parents predictions input s .inverse) all at
+  pub drift-learnt : (new : List Float) → new ≡ inFours g (movedFrom d gain 4 error weight) d → new ≡ inFours g (λ s. learntIn w h d parents predictions input s .drift) d
+  drift-learnt new n = n ∙ fours-same g (movedFrom d gain 4 error weight) (λ s. learntIn w h d parents predictions input s .drift) d
+      (λ l b. moved-lane d 4 l b ∙ sym (ap (λ (m : Model). m .drift) (learnt-lane l b)))
+
+  pub inverse-learnt : (all new : List Float) → new ≡ inGroup g (inverseAfter w gain row weight) all → new ≡ inGroup g (λ s. learntIn w h d parents predictions input s .inverse) all
+  inverse-learnt all new n = n ∙ group-same g (inverseAfter w gain row weight) (λ s. learntIn w h d parents predictions input s .inverse) all at
     where
-      at : (l : ℕ) → l < 16 → inverseAfter one gain row weight (16 * g + l) ≡ learntIn w h d parents predictions input (16 * g + l) .inverse
+      at : (l : ℕ) → l < 16 → inverseAfter w gain row weight (16 * g + l) ≡ learntIn w h d parents predictions input (16 * g + l) .inverse
       at l b =
           let q : (16 * g + l) % 16 ≡ l = omega arith in
-          ap (λ (l : ℕ). renewedOf (getD weight l nan) (settledOf (inverseIn one l) (rowIn gain l) (rowIn row l))) q
-          ∙ (λ i. renewedOf (weight-lane l b i) (settledOf (inverse-lane l b i) (gain-lane l b i) (row-lane l b i)))
-          ∙ sym (ap (λ (m : Model). m .inverse) (learnt-lane l b) ∙ learnt-inverse (modelIn w h d l) (us l) (differenceOf input (pointAt predictions (16 * g + l))))
+          ap (λ (l : ℕ). renewedOf (getD weight l nan) (settledOf (inverseIn w l) (rowIn gain l) (rowIn row l))) q
+          ∙ (λ i. renewedOf (weight-lane l b i) (settledOf (inverseIn w l) (gain-lane l b i) (row-lane l b i)))
+          ∙ sym (ap (λ (m : Model). m .inverse) (learnt-lane l b))
 
 -- ---- group after group
 module _ (f : ℕ → List Complex32) where
@@ -332,6 +354,14 @@ module _ (f : ℕ → List Complex32) where
     where
       at : (k : ℕ) → k < 256 → pairAt 256 v k ≡ cond (eqb (k % 64 / 16) g) (numberOf (f (k % 64)) (k / 64)) (pairAt 256 m k)
       at k b = ap (λ (z : List Float). pairAt 256 z k) e ∙ pairs-at 256 (λ k. cond (eqb (k % 64 / 16) g) (numberOf (f (k % 64)) (k / 64)) (pairAt 256 m k)) k b
+
+  -- the numbers of the groups to come are as they were
+  fours-left : (g : ℕ) (l m : List Float) (n : ℕ) → m ≡ foursTo g l → g < 4 → n < 16 → driftAt m (16 * g + n) ≡ driftAt l (16 * g + n)
+  unfolding foursTo driftAt
+  fours-left g l m n e h b = upto-same (λ t. pairAt 256 m (64 * t + (16 * g + n))) (λ t. pairAt 256 l (64 * t + (16 * g + n))) 4 (λ t c.
+      let r : (64 * t + (16 * g + n)) % 64 ≡ 16 * g + n = omega arith in
+      let q : (64 * t + (16 * g + n)) % 64 / 16 ≡ g = rw r (omega arith) in
+      swept-left 256 (λ k. k % 64 / 16) (λ k. numberOf (f (k % 64)) (k / 64)) g l m (64 * t + (16 * g + n)) e (omega arith) (omega (arith, q)))
 
   pub fours-end : (g : ℕ) (l m : List Float) → m ≡ foursTo g l → g ≡ 4 → m ≡ driftsOf f
   unfolding foursTo driftsOf
@@ -363,68 +393,42 @@ module _ (f : ℕ → List Complex32) where
   unfolding inversesTo inversesOf
   inverses-end g l m e h = swept-end 4096 (λ n. n / 1024) (λ n. getD (f (stateAt n)) (n / 4 % 64) zeroPair) g l m e (λ k b. omega arith)
 
--- ---- the rooms are the parents'
-module _ (taps drift inverse : List Float) (parents : List ℕ) (g : ℕ) where
-  drift-lane : (all room : List Float) (l : ℕ) → room ≡ lanesOf 64 (λ l. driftAt all (parentOf parents (16 * g + l))) → l < 16 → fourIn room l ≡ driftAt all (parentOf parents (16 * g + l))
-  drift-lane all room l e b = lane-is 64 4 (λ l. driftAt all (parentOf parents (16 * g + l))) room l e refl b (unfold driftAt in length-upto _ 4)
+-- ---- each group goes on from its parents
+module _ (taps drift inverse : List Float) (parents : List ℕ) (g : ℕ) (hg : g < 4) (predictions : Planes) (input : Complex32) where
+  abbrev learnt : ℕ → Model
+  learnt = learntFrom taps drift inverse parents predictions input
 
   module _ (w h d : List Float)
-      (is-w : w ≡ lanesOf 1024 (λ l. inverseOf inverse (getD parents (16 * g + l) 0)))
-      (is-h : h ≡ lanesOf 64 (λ l. driftAt taps (parentOf parents (16 * g + l))))
-      (is-d : d ≡ lanesOf 64 (λ l. driftAt drift (parentOf parents (16 * g + l)))) where
-    model-lane : (l : ℕ) → l < 16 → modelIn w h d l ≡ parentIn taps drift inverse parents (16 * g + l)
-    model-lane l b =
-        let p : inverseIn w l ≡ inverseOf inverse (parentOf parents (16 * g + l)) =
-        unfold parentOf in lane-is 1024 64 (λ l. inverseOf inverse (getD parents (16 * g + l) 0)) w l is-w refl b (unfold inverseOf in length-upto _ 64) in
-        let q = drift-lane taps h l is-h b in
-        let r = drift-lane drift d l is-d b in
-        λ i. record { taps = q i; drift = r i; inverse = p i }
-
-    pub from-lane : (predictions : Planes) (input : Complex32) (l : ℕ) → l < 16
-        → learntIn w h d parents predictions input (16 * g + l) ≡ learntFrom taps drift inverse parents predictions input (16 * g + l)
-    unfolding learntIn learntFrom
-    from-lane predictions input l b =
+      (is-w : w ≡ lanesOf 1024 (λ l. foretoldOf (inverseOf inverse (getD parents (16 * g + l) 0))))
+      (is-h : h ≡ foursTo (λ s. learnt s .taps) g taps)
+      (is-d : d ≡ foursTo (λ s. learnt s .drift) g drift) where
+    from-lane : (l : ℕ) → l < 16 → learntIn w h d parents predictions input (16 * g + l) ≡ learnt (16 * g + l)
+    unfolding learntIn learntFrom learntOf
+    from-lane l b =
         let q : (16 * g + l) % 16 ≡ l = omega arith in
-        rw q (ap (λ (m : Model). learntOf m (symbolsOf (16 * g + l) (parentOf parents (16 * g + l))) (differenceOf input (pointAt predictions (16 * g + l)))) (model-lane l b))
+        let p : inverseIn w l ≡ foretoldOf (inverseOf inverse (parentOf parents (16 * g + l))) =
+        unfold parentOf in lane-is 1024 64 (λ l. foretoldOf (inverseOf inverse (getD parents (16 * g + l) 0))) w l is-w refl b (foretold-length _) in
+        let t = fours-left (λ s. learnt s .taps) g taps h l is-h hg b in
+        let r = fours-left (λ s. learnt s .drift) g drift d l is-d hg b in
+        (λ i. learntWith (driftAt h (16 * g + l)) (driftAt d (16 * g + l)) (inverseIn w (q i)) (symbolsOf (16 * g + l) (parentOf parents (16 * g + l))) (differenceOf input (pointAt predictions (16 * g + l))))
+        ∙ (λ i. learntWith (t i) (r i) (p i) (symbolsOf (16 * g + l) (parentOf parents (16 * g + l))) (differenceOf input (pointAt predictions (16 * g + l))))
 
-    module _ (predictions : Planes) (input : Complex32) where
-      abbrev learnt : ℕ → Model
-      learnt = learntFrom taps drift inverse parents predictions input
+    pub taps-turn : (v : List Float) → v ≡ inFours g (λ s. learntIn w h d parents predictions input s .taps) h → v ≡ foursTo (λ s. learnt s .taps) (g + 1) taps
+    taps-turn v e = fours-turn (λ s. learnt s .taps) g taps h v
+        (e ∙ fours-same g (λ s. learntIn w h d parents predictions input s .taps) (λ s. learnt s .taps) h (λ n b. ap (λ (x : Model). x .taps) (from-lane n b))) is-h
 
-      pub taps-turn : (l m v : List Float) → v ≡ inFours g (λ s. learntIn w h d parents predictions input s .taps) m → m ≡ foursTo (λ s. learnt s .taps) g l → v ≡ foursTo (λ s. learnt s .taps) (g + 1) l
-      taps-turn l m v e k = fours-turn (λ s. learnt s .taps) g l m v
-          (e ∙ fours-same g (λ s. learntIn w h d parents predictions input s .taps) (λ s. learnt s .taps) m (λ n b. ap (λ (x : Model). x .taps) (from-lane predictions input n b))) k
+    pub drift-turn : (v : List Float) → v ≡ inFours g (λ s. learntIn w h d parents predictions input s .drift) d → v ≡ foursTo (λ s. learnt s .drift) (g + 1) drift
+    drift-turn v e = fours-turn (λ s. learnt s .drift) g drift d v
+        (e ∙ fours-same g (λ s. learntIn w h d parents predictions input s .drift) (λ s. learnt s .drift) d (λ n b. ap (λ (x : Model). x .drift) (from-lane n b))) is-d
 
-      pub drift-turn : (l m v : List Float) → v ≡ inFours g (λ s. learntIn w h d parents predictions input s .drift) m → m ≡ foursTo (λ s. learnt s .drift) g l → v ≡ foursTo (λ s. learnt s .drift) (g + 1) l
-      drift-turn l m v e k = fours-turn (λ s. learnt s .drift) g l m v
-          (e ∙ fours-same g (λ s. learntIn w h d parents predictions input s .drift) (λ s. learnt s .drift) m (λ n b. ap (λ (x : Model). x .drift) (from-lane predictions input n b))) k
+    pub inverse-turn : (l m v : List Float) → v ≡ inGroup g (λ s. learntIn w h d parents predictions input s .inverse) m → m ≡ inversesTo (λ s. learnt s .inverse) g l → v ≡ inversesTo (λ s. learnt s .inverse) (g + 1) l
+    inverse-turn l m v e k = inverses-turn (λ s. learnt s .inverse) g l m v
+        (e ∙ group-same g (λ s. learntIn w h d parents predictions input s .inverse) (λ s. learnt s .inverse) m (λ n b. ap (λ (x : Model). x .inverse) (from-lane n b))) k
 
-      pub inverse-turn : (l m v : List Float) → v ≡ inGroup g (λ s. learntIn w h d parents predictions input s .inverse) m → m ≡ inversesTo (λ s. learnt s .inverse) g l → v ≡ inversesTo (λ s. learnt s .inverse) (g + 1) l
-      inverse-turn l m v e k = inverses-turn (λ s. learnt s .inverse) g l m v
-          (e ∙ group-same g (λ s. learntIn w h d parents predictions input s .inverse) (λ s. learnt s .inverse) m (λ n b. ap (λ (x : Model). x .inverse) (from-lane predictions input n b))) k
-
-  abbrev kept : ℕ → Model
-  kept = inheritedFrom taps drift inverse parents
-
-  pub taps-kept : (h l m v : List Float) → h ≡ lanesOf 64 (λ l. driftAt taps (parentOf parents (16 * g + l))) → v ≡ inFours g (λ s. fourIn h (s % 16)) m
-      → m ≡ foursTo (λ s. kept s .taps) g l → v ≡ foursTo (λ s. kept s .taps) (g + 1) l
-  taps-kept h l m v is-h e k = fours-turn (λ s. kept s .taps) g l m v (e ∙ fours-same g (λ s. fourIn h (s % 16)) (λ s. kept s .taps) m at) k
-    where
-      at : (n : ℕ) → n < 16 → fourIn h ((16 * g + n) % 16) ≡ kept (16 * g + n) .taps
-      at n b = unfold inheritedFrom in let q : (16 * g + n) % 16 ≡ n = omega arith in ap (fourIn h) q ∙ drift-lane taps h n is-h b
-
-  pub drift-kept : (h l m v : List Float) → h ≡ lanesOf 64 (λ l. driftAt drift (parentOf parents (16 * g + l))) → v ≡ inFours g (λ s. fourIn h (s % 16)) m
-      → m ≡ foursTo (λ s. kept s .drift) g l → v ≡ foursTo (λ s. kept s .drift) (g + 1) l
-  drift-kept h l m v is-h e k = fours-turn (λ s. kept s .drift) g l m v (e ∙ fours-same g (λ s. fourIn h (s % 16)) (λ s. kept s .drift) m at) k
-    where
-      at : (n : ℕ) → n < 16 → fourIn h ((16 * g + n) % 16) ≡ kept (16 * g + n) .drift
-      at n b = unfold inheritedFrom in let q : (16 * g + n) % 16 ≡ n = omega arith in ap (fourIn h) q ∙ drift-lane drift h n is-h b
-
-  pub inverse-kept : (l m v : List Float) → v ≡ inGroup g (λ s. inverseOf inverse (getD parents s 0)) m → m ≡ inversesTo (λ s. kept s .inverse) g l → v ≡ inversesTo (λ s. kept s .inverse) (g + 1) l
-  inverse-kept l m v e k = inverses-turn (λ s. kept s .inverse) g l m v (e ∙ group-same g (λ s. inverseOf inverse (getD parents s 0)) (λ s. kept s .inverse) m at) k
-    where
-      at : (n : ℕ) → n < 16 → inverseOf inverse (getD parents (16 * g + n) 0) ≡ kept (16 * g + n) .inverse
-      at n b = unfold inheritedFrom in unfold parentOf in refl
+pub inverse-kept : (inverse : List Float) (parents : List ℕ) (g : ℕ) (l m v : List Float) → v ≡ inGroup g (λ s. inverseOf inverse (getD parents s 0)) m
+    → m ≡ inversesTo (λ s. inverseOf inverse (parentOf parents s)) g l → v ≡ inversesTo (λ s. inverseOf inverse (parentOf parents s)) (g + 1) l
+unfolding parentOf
+inverse-kept inverse parents g l m v e k = inverses-turn (λ s. inverseOf inverse (getD parents s 0)) g l m v e k
 
 -- ---- the planes before and after
 joined-taps : (c : Planes) (all : List Float) (s : ℕ) → all ≡ joinedOf c → s < 64 → driftAt all s ≡ tapsAt c s
@@ -456,46 +460,54 @@ laid-same f h same =
     pairs-same : (half : ℕ) (f h : ℕ → Complex32) → ((k : ℕ) → k < half → f k ≡ h k) → pairsOf half f ≡ pairsOf half h
     pairs-same half f h same = pairs-is half h (pairsOf half f) (pairs-length half f) (λ k b. pairs-at half f k b ∙ same k b)
 
-module _ (c : Planes) (drift inverse taps : List Float) (parents : List ℕ) (below : Parents parents) (is-taps : taps ≡ joinedOf c) where
+module _ (c : Planes) (drift inverse joined taps new : List Float) (parents : List ℕ) (below : Parents parents) (is-joined : joined ≡ joinedOf c)
+    (is-taps : taps ≡ driftsOf (λ s. driftAt joined (parentOf parents s)))
+    (is-new : new ≡ driftsOf (λ s. driftAt drift (parentOf parents s))) where
   abbrev memory : Memory
   memory = record { channels = c; drift = drift; inverse = inverse }
 
-  parent-is : (s : ℕ) → s < 64 → parentIn taps drift inverse parents s ≡ modelAt memory (parentOf parents s)
-  parent-is s h =
-      let p = joined-taps c taps (parentOf parents s) is-taps (unfold parentOf in below .below s h) in
-      λ i. record { taps = p i; drift = driftAt drift (parentOf parents s); inverse = inverseOf inverse (parentOf parents s) }
+  parent-taps : (s : ℕ) → s < 64 → driftAt joined (parentOf parents s) ≡ tapsAt c (parentOf parents s)
+  parent-taps s h = joined-taps c joined (parentOf parents s) is-joined (unfold parentOf in below .below s h)
 
-  module _ (predictions : Planes) (input : Complex32) (reliable : Bool) (planes : Planes) (all new next : List Float) where
-    laid : (f : ℕ → Model) → all ≡ driftsOf (λ s. f s .taps) → planes ≡ splitOf all → new ≡ driftsOf (λ s. f s .drift) → next ≡ inversesOf (λ s. f s .inverse)
-        → _≡_ {A = Memory} (record { channels = planes; drift = new; inverse = next }) (laidOut f)
+  heir-is : (s : ℕ) → s < 64 → heirOf taps new inverse parents s ≡ modelAt memory (parentOf parents s)
+  heir-is s h =
+      let p = drifts-at (λ s. driftAt joined (parentOf parents s)) taps s is-taps h (drift-length joined (parentOf parents s)) ∙ parent-taps s h in
+      let q = drifts-at (λ s. driftAt drift (parentOf parents s)) new s is-new h (drift-length drift (parentOf parents s)) in
+      λ i. record { taps = p i; drift = q i; inverse = inverseOf inverse (parentOf parents s) }
+
+  module _ (predictions : Planes) (input : Complex32) (reliable : Bool) (planes : Planes) (all after next : List Float) where
+    laid : (f : ℕ → Model) → all ≡ driftsOf (λ s. f s .taps) → planes ≡ splitOf all → after ≡ driftsOf (λ s. f s .drift) → next ≡ inversesOf (λ s. f s .inverse)
+        → _≡_ {A = Memory} (record { channels = planes; drift = after; inverse = next }) (laidOut f)
     unfolding laidOut
     laid f a p n x = let q = p ∙ split-channels (λ s. f s .taps) all a in λ i. record { channels = q i; drift = n i; inverse = x i }
 
     pub followed-yes : reliable ≡ true
-        → all ≡ driftsOf (λ s. learntFrom taps drift inverse parents predictions input s .taps) → planes ≡ splitOf all
-        → new ≡ driftsOf (λ s. learntFrom taps drift inverse parents predictions input s .drift)
-        → next ≡ inversesOf (λ s. learntFrom taps drift inverse parents predictions input s .inverse)
-        → _≡_ {A = Memory} (record { channels = planes; drift = new; inverse = next }) (followedOf memory parents predictions input reliable)
+        → all ≡ driftsOf (λ s. learntFrom taps new inverse parents predictions input s .taps) → planes ≡ splitOf all
+        → after ≡ driftsOf (λ s. learntFrom taps new inverse parents predictions input s .drift)
+        → next ≡ inversesOf (λ s. learntFrom taps new inverse parents predictions input s .inverse)
+        → _≡_ {A = Memory} (record { channels = planes; drift = after; inverse = next }) (followedOf memory parents predictions input reliable)
     unfolding followedOf
-    followed-yes t is-all is-planes is-new is-next =
-        laid (learntFrom taps drift inverse parents predictions input) is-all is-planes is-new is-next
-        ∙ laid-same (learntFrom taps drift inverse parents predictions input) (modelAfter memory parents predictions input reliable) at
+    followed-yes t is-all is-planes is-after is-next =
+        laid (learntFrom taps new inverse parents predictions input) is-all is-planes is-after is-next
+        ∙ laid-same (learntFrom taps new inverse parents predictions input) (modelAfter memory parents predictions input reliable) at
       where
-        at : (s : ℕ) → s < 64 → learntFrom taps drift inverse parents predictions input s ≡ modelAfter memory parents predictions input reliable s
-        at s h = unfold learntFrom in unfold modelAfter in rw t (ap (λ (m : Model). learntOf m (symbolsOf s (parentOf parents s)) (differenceOf input (pointAt predictions s))) (parent-is s h))
+        at : (s : ℕ) → s < 64 → learntFrom taps new inverse parents predictions input s ≡ modelAfter memory parents predictions input reliable s
+        at s h = unfold learntFrom in unfold modelAfter in rw t (ap (λ (m : Model). learntOf m (symbolsOf s (parentOf parents s)) (differenceOf input (pointAt predictions s))) (heir-is s h))
 
-    pub followed-no : reliable ≡ false
-        → all ≡ driftsOf (λ s. inheritedFrom taps drift inverse parents s .taps) → planes ≡ splitOf all
-        → new ≡ driftsOf (λ s. inheritedFrom taps drift inverse parents s .drift)
-        → next ≡ inversesOf (λ s. inheritedFrom taps drift inverse parents s .inverse)
-        → _≡_ {A = Memory} (record { channels = planes; drift = new; inverse = next }) (followedOf memory parents predictions input reliable)
+    pub followed-no : reliable ≡ false → planes ≡ splitOf taps → next ≡ inversesOf (λ s. inverseOf inverse (parentOf parents s))
+        → all ≡ taps → after ≡ new → _≡_ {A = Memory} (record { channels = planes; drift = after; inverse = next }) (followedOf memory parents predictions input reliable)
     unfolding followedOf
-    followed-no t is-all is-planes is-new is-next =
-        laid (inheritedFrom taps drift inverse parents) is-all is-planes is-new is-next
-        ∙ laid-same (inheritedFrom taps drift inverse parents) (modelAfter memory parents predictions input reliable) at
+    followed-no t is-planes is-next is-all is-after =
+        laid kept (is-all ∙ is-taps) (is-planes ∙ ap splitOf (sym is-all)) (is-after ∙ is-new) is-next
+        ∙ laid-same kept (modelAfter memory parents predictions input reliable) at
       where
-        at : (s : ℕ) → s < 64 → inheritedFrom taps drift inverse parents s ≡ modelAfter memory parents predictions input reliable s
-        at s h = unfold inheritedFrom in unfold modelAfter in rw t (parent-is s h)
+        kept : ℕ → Model
+        kept s = record { taps = driftAt joined (parentOf parents s); drift = driftAt drift (parentOf parents s); inverse = inverseOf inverse (parentOf parents s) }
+
+        at : (s : ℕ) → s < 64 → kept s ≡ modelAfter memory parents predictions input reliable s
+        at s h =
+            let p = parent-taps s h in
+            unfold modelAfter in rw t (λ i. record { taps = p i; drift = driftAt drift (parentOf parents s); inverse = inverseOf inverse (parentOf parents s) })
 
 pub drifts-length : (f : ℕ → List Complex32) (l : List Float) → l ≡ driftsOf f → length l ≡ 512
 unfolding driftsOf

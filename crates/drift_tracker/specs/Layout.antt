@@ -1,5 +1,5 @@
 -- The taps and drifts as the code works on them. Definitions that only the crate's own contracts cite.
-use Prim.Native.Nat.{ℕ, _+_, _*_, _/_, _%_}
+use Prim.Native.Nat.{ℕ, _+_, _/_, _%_}
 use mathlib.Core.Bool.{cond}
 use mathlib.Core.List.{List}
 use lib.Dec.{eqb}
@@ -9,8 +9,8 @@ use Rattle.laws.specs.Places.{upto}
 use Rattle.complex.specs.declared.Complex32.{Complex32}
 use Rattle.complex.specs.Complex.{differenceOf}
 use Rattle.complex.specs.Planes.{Planes, pointAt}
-use Rattle.least_squares.specs.Lanes.{pairAt, pairsOf, inverseOf, inverseIn, fourIn}
-use Rattle.least_squares.specs.LeastSquares.{numberOf, Model, learntOf}
+use Rattle.least_squares.specs.Lanes.{pairAt, pairsOf, inverseOf, inverseIn, rowIn, pairIn, realIn}
+use Rattle.least_squares.specs.LeastSquares.{numberOf, isUsable, movedOf, crossedOf, weightOf, gainFor, settledOf, renewedOf, Model, learntOf}
 use Rattle.drift_tracker.specs.Drift.{driftAt, parentOf, symbolsOf}
 
 -- two planes in one list, and taken apart again
@@ -24,26 +24,27 @@ splitOf l = record { real = upto (λ k. getD l k nan) 256; imaginary = upto (λ 
 unfoldable pub inFours : ℕ → (ℕ → List Complex32) → List Float → List Float
 inFours g f l = pairsOf 256 (λ k. cond (eqb (k % 64 / 16) g) (numberOf (f (k % 64)) (k / 64)) (pairAt 256 l k))
 
--- a lane's state
-abbrev pub modelIn : List Float → List Float → List Float → ℕ → Model
-modelIn w h d l = record { taps = fourIn h l; drift = fourIn d l; inverse = inverseIn w l }
+-- the four numbers of the state s, moved by the gain of its lane, from the number `from` on, times the lane's error
+unfoldable pub movedFrom : List Float → List Float → ℕ → List Float → List Float → ℕ → List Complex32
+movedFrom all gain from error d s = movedOf (driftAt all s) (rowIn gain (s % 16)) from (pairIn error (s % 16)) (isUsable (realIn d (s % 16)))
 
--- what the lane of the state s has learnt
-unfoldable pub learntIn : List Float → List Float → List Float → List ℕ → Planes → Complex32 → ℕ → Model
-learntIn w h d parents predictions input s =
-    learntOf (modelIn w h d (s % 16)) (symbolsOf s (parentOf parents s)) (differenceOf input (pointAt predictions s))
-
--- the parent of the state s, as the code has the taps: in one list
-abbrev pub parentIn : List Float → List Float → List Float → List ℕ → ℕ → Model
-parentIn taps drift inverse parents s = record {
-  taps = driftAt taps (parentOf parents s);
-  drift = driftAt drift (parentOf parents s);
-  inverse = inverseOf inverse (parentOf parents s);
+-- what a state learns whose taps and drift are its parent's, from the parent's inverse p one symbol on (`learntOf` from there)
+abbrev pub learntWith : List Complex32 → List Complex32 → List Complex32 → List Complex32 → Complex32 → Model
+learntWith taps drift p u error = record {
+  taps = movedOf taps (gainFor p u) 0 error (isUsable (weightOf p u));
+  drift = movedOf drift (gainFor p u) 4 error (isUsable (weightOf p u));
+  inverse = renewedOf (weightOf p u) (settledOf p (gainFor p u) (crossedOf p u));
 }
+
+-- what the state s has learnt, whose inverse stands in a room's lane
+unfoldable pub learntIn : List Float → List Float → List Float → List ℕ → Planes → Complex32 → ℕ → Model
+learntIn w taps drift parents predictions input s =
+    learntWith (driftAt taps s) (driftAt drift s) (inverseIn w (s % 16)) (symbolsOf s (parentOf parents s)) (differenceOf input (pointAt predictions s))
+
+-- the state s before it learns: taps and drift are its parent's already
+abbrev pub heirOf : List Float → List Float → List Float → List ℕ → ℕ → Model
+heirOf taps drift inverse parents s = record { taps = driftAt taps s; drift = driftAt drift s; inverse = inverseOf inverse (parentOf parents s) }
 
 unfoldable pub learntFrom : List Float → List Float → List Float → List ℕ → Planes → Complex32 → ℕ → Model
 learntFrom taps drift inverse parents predictions input s =
-    learntOf (parentIn taps drift inverse parents s) (symbolsOf s (parentOf parents s)) (differenceOf input (pointAt predictions s))
-
-unfoldable pub inheritedFrom : List Float → List Float → List Float → List ℕ → ℕ → Model
-inheritedFrom taps drift inverse parents s = parentIn taps drift inverse parents s
+    learntOf (heirOf taps drift inverse parents s) (symbolsOf s (parentOf parents s)) (differenceOf input (pointAt predictions s))

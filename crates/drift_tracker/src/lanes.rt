@@ -1,18 +1,22 @@
-// Taps and drifts of all states, taken into rooms of sixteen lanes and put back.
+// Taps and drifts of all states: put in one array and apart again, taken from the parents, and moved.
 ghost use mathlib.Core.Path.{_≡_};
-ghost use Prim.Native.Nat.{_+_, _*_, _%_, _<_};
+ghost use Prim.Native.Nat.{_<_, _≤_};
 ghost use lib.ListN.{length};
 ghost use Rattle.complex.specs.Lends.{reads, leaves};
 ghost use Rattle.complex.specs.Planes.{pointAt};
 ghost use Rattle.channels.specs.Channels.{Parents};
-ghost use Rattle.least_squares.specs.Lanes.{pairAt, lanesOf, fourIn};
-ghost use Rattle.drift_tracker.specs.Drift.{driftAt, parentOf};
-ghost use Rattle.drift_tracker.specs.Layout.{joinedOf, splitOf, inFours};
+ghost use Rattle.least_squares.specs.Lanes.{pairAt};
+ghost use Rattle.drift_tracker.specs.Drift.{driftAt, driftsOf, parentOf};
+ghost use Rattle.drift_tracker.specs.Layout.{joinedOf, splitOf, inFours, movedFrom};
 use super::DRIFTS;
 use channels::CHANNELS;
 use channels::STATES;
 use complex::Complex32;
-use least_squares::FOURS;
+use least_squares::EIGHTS;
+use least_squares::LANES;
+use least_squares::PAIRS;
+use least_squares::limits::is_usable;
+use least_squares::step::moved;
 
 fn point(real: &[f32; CHANNELS], imaginary: &[f32; CHANNELS], k: usize) -> Complex32
     requires { ⌜ k < 256 ⌝ }
@@ -34,13 +38,23 @@ fn number(all: &[f32; DRIFTS], k: usize) -> Complex32
     }
 }
 
-fn lane_number(room: &[f32; FOURS], k: usize) -> Complex32
-    requires { ⌜ k < 64 ⌝ }
-    ensures { λ r. ⌜ r ≡ pairAt 64 (now (room .entry)) k ⌝ }
+fn gain_number(gain: &[f32; EIGHTS], k: usize) -> Complex32
+    requires { ⌜ k < 128 ⌝ }
+    ensures { λ r. ⌜ r ≡ pairAt 128 (now (gain .entry)) k ⌝ }
 {
     Complex32 {
-        real: room[k],
-        imaginary: room[k + 64],
+        real: gain[k],
+        imaginary: gain[k + 128],
+    }
+}
+
+fn error_number(error: &[f32; PAIRS], k: usize) -> Complex32
+    requires { ⌜ k < 16 ⌝ }
+    ensures { λ r. ⌜ r ≡ pairAt 16 (now (error .entry)) k ⌝ }
+{
+    Complex32 {
+        real: error[k],
+        imaginary: error[k + 16],
     }
 }
 
@@ -78,35 +92,45 @@ pub fn parent(parents: &[u8; STATES], s: usize) -> usize
     parents[s] as usize
 }
 
-// The four numbers of the parents of the sixteen states from 16 g on.
-pub fn take(all: &[f32; DRIFTS], parents: &[u8; STATES], g: usize, room: &mut [f32; FOURS])
-    requires { ⌜ (g < 4) × Parents (now parents) × (length (now room) ≡ 128) ⌝ }
-    ensures { λ r. ⌜ now (room .exit) ≡ lanesOf 64 (λ l. driftAt (now (all .entry)) (parentOf (now (parents .entry)) (16 * g + l))) ⌝ }
+// Each state's four numbers are its parent's.
+pub fn inherit(all: &[f32; DRIFTS], parents: &[u8; STATES], new: &mut [f32; DRIFTS])
+    requires { ⌜ Parents (now parents) × (length (now new) ≡ 512) ⌝ }
+    ensures { λ r. ⌜ now (new .exit) ≡ driftsOf (λ s. driftAt (now (all .entry)) (parentOf (now (parents .entry)) s)) ⌝ }
 {
-    let mut t = 0;
-    while t < 4 {
-        let mut l = 0;
-        while l < 16 {
-            let p = parent(parents, 16 * g + l);
-            let z = number(all, 64 * t + p);
-            room[16 * t + l] = z.real;
-            room[16 * t + l + 64] = z.imaginary;
-            l += 1;
-        }
-        t += 1;
+    let mut k = 0;
+    while k < CHANNELS {
+        let p = parent(parents, k % 64);
+        let z = number(all, 64 * (k / 64) + p);
+        new[k] = z.real;
+        new[k + 256] = z.imaginary;
+        k += 1;
     }
 }
 
-// The four numbers of each lane, put back as those of the sixteen states from 16 g on.
-pub fn put(room: &[f32; FOURS], g: usize, all: &mut [f32; DRIFTS])
-    requires { ⌜ (g < 4) × (length (now all) ≡ 512) ⌝ }
-    ensures { λ r. ⌜ now (all .exit) ≡ inFours g (λ s. fourIn (now (room .entry)) (s % 16)) (now (all .entry)) ⌝ }
+// The four numbers of the sixteen states from 16 g on are moved by each lane's gain, from its number `from`
+// on, times its error.
+pub fn pull(
+    all: &mut [f32; DRIFTS],
+    gain: &[f32; EIGHTS],
+    from: usize,
+    error: &[f32; PAIRS],
+    d: &[f32; LANES],
+    g: usize,
+)
+    requires { ⌜ (from ≤ 4) × (g < 4) × (length (now all) ≡ 512) ⌝ }
+    ensures { λ r. ⌜ now (all .exit) ≡ inFours g (movedFrom (now (all .entry)) (now (gain .entry)) from (now (error .entry)) (now (d .entry))) (now (all .entry)) ⌝ }
 {
     let mut t = 0;
     while t < 4 {
         let mut l = 0;
         while l < 16 {
-            let z = lane_number(room, 16 * t + l);
+            let tap = number(all, 64 * t + 16 * g + l);
+            let z = moved(
+                tap,
+                gain_number(gain, 16 * (t + from) + l),
+                error_number(error, l),
+                is_usable(d[l]),
+            );
             all[64 * t + 16 * g + l] = z.real;
             all[64 * t + 16 * g + l + 256] = z.imaginary;
             l += 1;

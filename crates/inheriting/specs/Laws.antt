@@ -3,20 +3,21 @@ use mathlib.Core.Path.{_≡_, refl, ap, sym, _∙_}
 use mathlib.Core.Logic.{⊎-elim}
 use Prim.Native.Nat.{ℕ, zero, suc, _+_, _-_, _*_, _/_, _%_, _≤_, _<_}
 use native.Mathlib.Omega.{arith}
-use mathlib.Core.Bool.{cond}
+use mathlib.Core.Bool.{Bool, true, cond, _&&_}
 use mathlib.Core.List.{List}
 use lib.Dec.{eqb}
 use lib.ListN.{length, getD}
 use lib.Ieee.{Float}
-use borrow.Author.Tests.{eq-eqb, ne-eqb}
+use borrow.Author.Tests.{eq-eqb, ne-eqb, eqb-true}
 use Rattle.laws.specs.Ring.{lt-or-ge}
 use Rattle.laws.specs.Turns.{turns, turns-start, turns-step, turns-end}
+use Rattle.laws.specs.Branches.{and-true}
 use Rattle.laws.specs.Places.{upto-at}
 use Rattle.complex.specs.declared.Complex32.{Complex32}
 use Rattle.complex.specs.Complex.{zeroPair}
-use Rattle.least_squares.specs.Lanes.{pairAt, putPair, inLanes, lanesOf, stateAt, inverseOf, inGroup}
-use Rattle.lane_sums.specs.LaneLaws.{pairs-is, in-lane, put-length, put-same, put-other, sweptTo, swept-length, swept-left, swept-done, swept-start, swept-turn, swept-end}
-use Rattle.inheriting.specs.Inheriting.{placeOf, putFour, fourTurn, foursPut}
+use Rattle.least_squares.specs.Lanes.{pairAt, putPair, stateAt, inverseOf, inGroup}
+use Rattle.lane_sums.specs.LaneLaws.{pairs-is, put-length, put-same, put-other, sweptTo, swept-length, swept-left, swept-done, swept-start, swept-turn}
+use Rattle.inheriting.specs.Inheriting.{placeOf, alikeOf, putFour, fourTurn, foursPut}
 
 -- ---- four numbers put
 module _ (half : ℕ) (m : List Float) (at : ℕ) (x y z w : Complex32) where
@@ -85,7 +86,7 @@ module _ (half : ℕ) (m : List Float) (at : ℕ) (x y z w : Complex32) where
       (lt-or-ge k (at + 1))
 
 -- a turn that writes the four places from `at` on
-four-next : (half : ℕ) (t : ℕ → ℕ) (f : ℕ → Complex32) (n : ℕ) (l m : List Float) (at : ℕ) (x y z w : Complex32) → m ≡ sweptTo half t f n l → at + 3 < half
+pub four-next : (half : ℕ) (t : ℕ → ℕ) (f : ℕ → Complex32) (n : ℕ) (l m : List Float) (at : ℕ) (x y z w : Complex32) → m ≡ sweptTo half t f n l → at + 3 < half
     → x ≡ f at → y ≡ f (at + 1) → z ≡ f (at + 2) → w ≡ f (at + 3)
     → ((k : ℕ) → k < half → t k ≡ n → (at ≤ k) × (k < at + 4))
     → ((k : ℕ) → at ≤ k → k < at + 4 → t k ≡ n) → putFour half m at x y z w ≡ sweptTo half t f (n + 1) l
@@ -99,116 +100,55 @@ four-next half t f n l m at x y z w e b fx fy fz fw back turn =
     (λ p. o (turn k (omega arith) (omega arith)))
     (λ p. o (turn k (omega arith) (omega arith))))
 
+-- ---- places that are one
+pub alike-is : (a b c d : ℕ) (r : Bool) → r ≡ alikeOf a b c d → r ≡ true → (a ≡ b) × (a ≡ c) × (a ≡ d)
+alike-is a b c d r e h =
+    let all = and-true (eqb a b && eqb a c) (eqb a d) (sym e ∙ h) in
+    let two = and-true (eqb a b) (eqb a c) (all .0) in
+    (eqb-true a b (two .0), eqb-true a c (two .1), eqb-true a d (all .1))
+
+-- what is laid from one place four times is laid from four that are one
+pub alike-laid : (f : ℕ → ℕ → ℕ → ℕ → List Float) (a b c d : ℕ) (v : List Float) (r : Bool) → r ≡ alikeOf a b c d → r ≡ true → v ≡ f a a a a → v ≡ f a b c d
+alike-laid f a b c d v r e h q =
+    let one = alike-is a b c d r e h in
+    q ∙ (λ i. f a (one .0 i) (one .1 i) (one .2 i))
+
 -- ---- the loop over the numbers of four inverses
-module _ (half stride : ℕ) (old : List Float) (a b c d to : ℕ) where
-  pub fours-start : (l : List Float) → l ≡ foursPut half stride old a b c d to 0 l
+module _ (old : List Float) (a b c d to : ℕ) where
+  pub fours-start : (l : List Float) → l ≡ foursPut old a b c d to 0 l
   unfolding foursPut
   fours-start l = turns-start _ _
 
-  pub fours-step : (n : ℕ) (l m : List Float) → m ≡ foursPut half stride old a b c d to n l → fourTurn half stride old a b c d to n m ≡ foursPut half stride old a b c d to (n + 1) l
+  pub fours-step : (n : ℕ) (l m v : List Float) → v ≡ fourTurn old a b c d to n m → m ≡ foursPut old a b c d to n l → v ≡ foursPut old a b c d to (n + 1) l
   unfolding foursPut
-  fours-step n l m h = turns-step (fourTurn half stride old a b c d to) n l m h
+  fours-step n l m v e h = e ∙ turns-step (fourTurn old a b c d to) n l m h
 
-  pub fours-end : (n : ℕ) (l m : List Float) → m ≡ foursPut half stride old a b c d to n l → n ≤ 64 → 64 ≤ n → m ≡ foursPut half stride old a b c d to 64 l
+  pub fours-end : (n : ℕ) (l m : List Float) → m ≡ foursPut old a b c d to n l → n ≤ 64 → 64 ≤ n → m ≡ foursPut old a b c d to 64 l
   unfolding foursPut
-  fours-end n l m h p q = turns-end (fourTurn half stride old a b c d to) n 64 l m h p q
+  fours-end n l m h p q = turns-end (fourTurn old a b c d to) n 64 l m h p q
+
+  pub fours-alike : (l v : List Float) (r : Bool) → r ≡ alikeOf a b c d → r ≡ true → v ≡ foursPut old a a a a to 64 l → v ≡ foursPut old a b c d to 64 l
+  fours-alike l v r e h q = alike-laid (λ a b c d. foursPut old a b c d to 64 l) a b c d v r e h q
 
 -- where each turn of the loop is the next of a sweep, so are all 64
-module _ (half stride : ℕ) (t : ℕ → ℕ) (f : ℕ → Complex32) (old : List Float) (a b c d to base : ℕ) (given : List Float)
-    (next : (e : ℕ) (r : List Float) → e < 64 → r ≡ sweptTo half t f (base + e) given → fourTurn half stride old a b c d to e r ≡ sweptTo half t f (base + e + 1) given) where
-  fours-some : (n : ℕ) (r : List Float) → n ≤ 64 → r ≡ sweptTo half t f base given → foursPut half stride old a b c d to n r ≡ sweptTo half t f (base + n) given
+module _ (t : ℕ → ℕ) (f : ℕ → Complex32) (old : List Float) (a b c d to base : ℕ) (given : List Float)
+    (next : (e : ℕ) (r : List Float) → e < 64 → r ≡ sweptTo 4096 t f (base + e) given → fourTurn old a b c d to e r ≡ sweptTo 4096 t f (base + e + 1) given) where
+  fours-some : (n : ℕ) (r : List Float) → n ≤ 64 → r ≡ sweptTo 4096 t f base given → foursPut old a b c d to n r ≡ sweptTo 4096 t f (base + n) given
   unfolding foursPut turns
-  fours-some zero r h q = q ∙ ap (λ (i : ℕ). sweptTo half t f i given) (omega arith)
+  fours-some zero r h q = q ∙ ap (λ (i : ℕ). sweptTo 4096 t f i given) (omega arith)
   fours-some (suc n) r h q =
       let s : base + n + 1 ≡ base + suc n = omega arith in
-      next n (foursPut half stride old a b c d to n r) (omega arith) (fours-some n r (omega arith) q) ∙ ap (λ (i : ℕ). sweptTo half t f i given) s
+      next n (foursPut old a b c d to n r) (omega arith) (fours-some n r (omega arith) q) ∙ ap (λ (i : ℕ). sweptTo 4096 t f i given) s
 
-  fours-swept : (r v : List Float) (n : ℕ) → v ≡ foursPut half stride old a b c d to 64 r → r ≡ sweptTo half t f base given → base + 64 ≡ n → v ≡ sweptTo half t f n given
-  fours-swept r v n e q s = e ∙ fours-some 64 r (omega arith) q ∙ ap (λ (i : ℕ). sweptTo half t f i given) s
+  fours-swept : (r v : List Float) (n : ℕ) → v ≡ foursPut old a b c d to 64 r → r ≡ sweptTo 4096 t f base given → base + 64 ≡ n → v ≡ sweptTo 4096 t f n given
+  fours-swept r v n e q s = e ∙ fours-some 64 r (omega arith) q ∙ ap (λ (i : ℕ). sweptTo 4096 t f i given) s
 
 -- ---- the number e of a state's inverse
-inverse-at : (old : List Float) (s e : ℕ) → e < 64 → getD (inverseOf old s) e zeroPair ≡ pairAt 4096 old (placeOf s + 4 * e)
+pub inverse-at : (old : List Float) (s e at : ℕ) → e < 64 → at ≡ placeOf s + 4 * e → getD (inverseOf old s) e zeroPair ≡ pairAt 4096 old at
 unfolding inverseOf
-inverse-at old s e h =
-    let q : 256 * (s / 4) + 4 * e + s % 4 ≡ placeOf s + 4 * e = omega arith in
-    upto-at (λ e. pairAt 4096 old (256 * (s / 4) + 4 * e + s % 4)) 64 e zeroPair h ∙ ap (pairAt 4096 old) q
-
--- ---- the room of the parents' inverses
-
--- the turn in which a place of the room is written
-abbrev pub takeTurn : ℕ → ℕ
-takeTurn k = 64 * (k % 16 / 4) + k / 16
-
-take-turn : (k e m : ℕ) → m < 4 → 16 * e + 4 * m ≤ k → k < 16 * e + 4 * m + 4 → takeTurn k ≡ 64 * m + e
-take-turn k e m h low high =
-    let d : k / 16 ≡ e = omega arith in
-    let r : 4 * m ≤ k % 16 = omega arith in
-    let s : k % 16 < 4 * m + 4 = omega arith in
-    let q : k % 16 / 4 ≡ m = omega (arith, r, s) in
-    rw (q, d)
-
-turn-split : (x y m e : ℕ) → y < 64 → e < 64 → 64 * x + y ≡ 64 * m + e → (x ≡ m) × (y ≡ e)
-turn-split x y m e h b q = (omega arith, omega arith)
-
-lane-low : (r m : ℕ) → r / 4 ≡ m → (4 * m ≤ r) × (r < 4 * m + 4)
-lane-low r m q = (omega arith, omega arith)
-
-take-back : (k e m : ℕ) → k < 1024 → e < 64 → takeTurn k ≡ 64 * m + e → (16 * e + 4 * m ≤ k) × (k < 16 * e + 4 * m + 4)
-take-back k e m h b q =
-    let d = turn-split (k % 16 / 4) (k / 16) m e (omega arith) b q in
-    let d1 : k / 16 ≡ e = d .1 in
-    let r = lane-low (k % 16) m (d .0) in
-    let r0 : 4 * m ≤ k % 16 = r .0 in
-    let r1 : k % 16 < 4 * m + 4 = r .1 in
-    (omega (arith, d1, r0), omega (arith, d1, r1))
-
-module _ (old : List Float) (parents : List ℕ) (g : ℕ) where
-  abbrev taken : ℕ → List Complex32
-  taken l = inverseOf old (getD parents (16 * g + l) 0)
-
-  -- after n turns
-  unfoldable pub takenTo : ℕ → List Float → List Float
-  takenTo n l = sweptTo 1024 takeTurn (inLanes taken) n l
-
-  taken-at : (m e j a k p : ℕ) → m < 4 → e < 64 → j < 4 → a ≡ placeOf (getD parents p 0) → p ≡ 16 * g + 4 * m + j → k ≡ 16 * e + 4 * m + j
-      → pairAt 4096 old (a + 4 * e) ≡ inLanes taken k
-  taken-at m e j a k p hm he hj ea ep ek =
-      let q : k ≡ 16 * e + (4 * m + j) = omega arith in
-      let s : p ≡ 16 * g + (4 * m + j) = omega arith in
-      sym (ap (inLanes taken) q
-      ∙ in-lane taken e (4 * m + j) (omega arith)
-      ∙ inverse-at old (getD parents (16 * g + (4 * m + j)) 0) e he
-      ∙ ap (λ (i : ℕ). pairAt 4096 old (placeOf (getD parents i 0) + 4 * e)) (sym s)
-      ∙ ap (λ (i : ℕ). pairAt 4096 old (i + 4 * e)) (sym ea))
-
-  module _ (m a b c d : ℕ) (h : m < 4)
-      (ea : a ≡ placeOf (getD parents (16 * g + 4 * m) 0))
-      (eb : b ≡ placeOf (getD parents (16 * g + 4 * m + 1) 0))
-      (ec : c ≡ placeOf (getD parents (16 * g + 4 * m + 2) 0))
-      (ed : d ≡ placeOf (getD parents (16 * g + 4 * m + 3) 0))
-      (given : List Float) where
-    take-next : (e : ℕ) (r : List Float) → e < 64 → r ≡ sweptTo 1024 takeTurn (inLanes taken) (64 * m + e) given
-        → fourTurn 1024 16 old a b c d (4 * m) e r ≡ sweptTo 1024 takeTurn (inLanes taken) (64 * m + e + 1) given
-    take-next e r he q =
-        four-next 1024 takeTurn (inLanes taken) (64 * m + e) given r (16 * e + 4 * m) _ _ _ _ q (omega arith)
-        (taken-at m e 0 a (16 * e + 4 * m) (16 * g + 4 * m) h he (omega arith) ea (omega arith) (omega arith))
-        (taken-at m e 1 b (16 * e + 4 * m + 1) (16 * g + 4 * m + 1) h he (omega arith) eb refl refl)
-        (taken-at m e 2 c (16 * e + 4 * m + 2) (16 * g + 4 * m + 2) h he (omega arith) ec refl refl)
-        (taken-at m e 3 d (16 * e + 4 * m + 3) (16 * g + 4 * m + 3) h he (omega arith) ed refl refl)
-        (λ k b t. take-back k e m b he t)
-        (λ k low high. take-turn k e m h low high)
-
-    pub take-step : (r v : List Float) → v ≡ foursPut 1024 16 old a b c d (4 * m) 64 r → r ≡ takenTo (64 * m) given → v ≡ takenTo (64 * (m + 1)) given
-    unfolding takenTo
-    take-step r v e q = fours-swept 1024 16 takeTurn (inLanes taken) old a b c d (4 * m) (64 * m) given take-next r v (64 * (m + 1)) e q (omega arith)
-
-  pub take-start : (l : List Float) → length l ≡ 2048 → l ≡ takenTo 0 l
-  unfolding takenTo
-  take-start l s = swept-start 1024 takeTurn (inLanes taken) l s
-
-  pub take-end : (m : ℕ) (l v : List Float) → v ≡ takenTo (64 * m) l → m ≤ 4 → 4 ≤ m → v ≡ lanesOf 1024 taken
-  unfolding takenTo lanesOf
-  take-end m l v e p q = swept-end 1024 takeTurn (inLanes taken) (64 * m) l v e (λ k b. omega arith)
+inverse-at old s e at h q =
+    let r : 256 * (s / 4) + 4 * e + s % 4 ≡ at = omega arith in
+    upto-at (λ e. pairAt 4096 old (256 * (s / 4) + 4 * e + s % 4)) 64 e zeroPair h ∙ ap (pairAt 4096 old) r
 
 -- ---- the inverses of sixteen states
 
@@ -222,18 +162,18 @@ turn-of x g n h b e = let q : x + 1024 - 256 * g ≡ 1024 + n = omega arith in o
 place-of-turn : (x g n : ℕ) → x < 1024 → g < 4 → n < 256 → (x + 1024 - 256 * g) % 1024 ≡ n → x ≡ 256 * g + n
 place-of-turn x g n h b c e = omega arith
 
-inherit-turn : (g k e m : ℕ) → g < 4 → m < 4 → e < 64 → 4 * e + (1024 * g + 256 * m) ≤ k → k < 4 * e + (1024 * g + 256 * m) + 4 → inheritTurn g k ≡ 64 * m + e
+inherit-turn : (g k e m : ℕ) → g < 4 → m < 4 → e < 64 → 1024 * g + 256 * m + 4 * e ≤ k → k < 1024 * g + 256 * m + 4 * e + 4 → inheritTurn g k ≡ 64 * m + e
 inherit-turn g k e m h b c low high =
     let q : k / 4 ≡ 256 * g + (64 * m + e) = omega arith in
     turn-of (k / 4) g (64 * m + e) h (omega arith) q
 
 inherit-back : (g k e m : ℕ) → g < 4 → m < 4 → e < 64 → k < 4096 → inheritTurn g k ≡ 64 * m + e
-    → (4 * e + (1024 * g + 256 * m) ≤ k) × (k < 4 * e + (1024 * g + 256 * m) + 4)
+    → (1024 * g + 256 * m + 4 * e ≤ k) × (k < 1024 * g + 256 * m + 4 * e + 4)
 inherit-back g k e m h b c s t =
     let q : k / 4 ≡ 256 * g + (64 * m + e) = place-of-turn (k / 4) g (64 * m + e) (omega arith) h (omega arith) t in
     (omega (arith, q), omega (arith, q))
 
-module _ (g m e j k : ℕ) (b : m < 4) (c : e < 64) (h : j < 4) (q : k ≡ 4 * e + (1024 * g + 256 * m) + j) where
+module _ (g m e j k : ℕ) (b : m < 4) (c : e < 64) (h : j < 4) (q : k ≡ 1024 * g + 256 * m + 4 * e + j) where
   state-is : stateAt k ≡ 16 * g + 4 * m + j
   state-is =
       let d : k / 256 ≡ 4 * g + m = omega arith in
@@ -264,12 +204,12 @@ module _ (old : List Float) (parents : List ℕ) (g : ℕ) where
   unfoldable pub inheritedTo : ℕ → List Float → List Float
   inheritedTo n l = sweptTo 4096 (inheritTurn g) inStates n l
 
-  inherited-at : (m e j a k p : ℕ) → m < 4 → e < 64 → j < 4 → a ≡ placeOf (getD parents p 0) → p ≡ 16 * g + 4 * m + j → k ≡ 4 * e + (1024 * g + 256 * m) + j
+  inherited-at : (m e j a k p : ℕ) → m < 4 → e < 64 → j < 4 → a ≡ placeOf (getD parents p 0) → p ≡ 16 * g + 4 * m + j → k ≡ 1024 * g + 256 * m + 4 * e + j
       → pairAt 4096 old (a + 4 * e) ≡ inStates k
   inherited-at m e j a k p hm he hj ea ep ek =
       sym (ap (λ (i : ℕ). getD (inherited i) (k / 4 % 64) zeroPair) (state-is g m e j k hm he hj ek ∙ sym ep)
       ∙ ap (λ (i : ℕ). getD (inherited p) i zeroPair) (number-is g m e j k hm he hj ek)
-      ∙ inverse-at old (getD parents p 0) e he
+      ∙ inverse-at old (getD parents p 0) e (placeOf (getD parents p 0) + 4 * e) he refl
       ∙ ap (λ (i : ℕ). pairAt 4096 old (i + 4 * e)) (sym ea))
 
   module _ (m a b c d : ℕ) (hg : g < 4) (h : m < 4)
@@ -279,20 +219,20 @@ module _ (old : List Float) (parents : List ℕ) (g : ℕ) where
       (ed : d ≡ placeOf (getD parents (16 * g + 4 * m + 3) 0))
       (given : List Float) where
     inherit-next : (e : ℕ) (r : List Float) → e < 64 → r ≡ sweptTo 4096 (inheritTurn g) inStates (64 * m + e) given
-        → fourTurn 4096 4 old a b c d (1024 * g + 256 * m) e r ≡ sweptTo 4096 (inheritTurn g) inStates (64 * m + e + 1) given
+        → fourTurn old a b c d (1024 * g + 256 * m) e r ≡ sweptTo 4096 (inheritTurn g) inStates (64 * m + e + 1) given
     inherit-next e r he q =
-        four-next 4096 (inheritTurn g) inStates (64 * m + e) given r (4 * e + (1024 * g + 256 * m)) _ _ _ _ q (omega arith)
-        (inherited-at m e 0 a (4 * e + (1024 * g + 256 * m)) (16 * g + 4 * m) h he (omega arith) ea (omega arith) (omega arith))
-        (inherited-at m e 1 b (4 * e + (1024 * g + 256 * m) + 1) (16 * g + 4 * m + 1) h he (omega arith) eb refl refl)
-        (inherited-at m e 2 c (4 * e + (1024 * g + 256 * m) + 2) (16 * g + 4 * m + 2) h he (omega arith) ec refl refl)
-        (inherited-at m e 3 d (4 * e + (1024 * g + 256 * m) + 3) (16 * g + 4 * m + 3) h he (omega arith) ed refl refl)
+        four-next 4096 (inheritTurn g) inStates (64 * m + e) given r (1024 * g + 256 * m + 4 * e) _ _ _ _ q (omega arith)
+        (inherited-at m e 0 a (1024 * g + 256 * m + 4 * e) (16 * g + 4 * m) h he (omega arith) ea (omega arith) (omega arith))
+        (inherited-at m e 1 b (1024 * g + 256 * m + 4 * e + 1) (16 * g + 4 * m + 1) h he (omega arith) eb refl refl)
+        (inherited-at m e 2 c (1024 * g + 256 * m + 4 * e + 2) (16 * g + 4 * m + 2) h he (omega arith) ec refl refl)
+        (inherited-at m e 3 d (1024 * g + 256 * m + 4 * e + 3) (16 * g + 4 * m + 3) h he (omega arith) ed refl refl)
         (λ k s t. inherit-back g k e m hg h he s t)
         (λ k low high. inherit-turn g k e m hg h he low high)
 
-    pub inherit-step : (r v : List Float) → v ≡ foursPut 4096 4 old a b c d (1024 * g + 256 * m) 64 r → r ≡ inheritedTo (64 * m) given → v ≡ inheritedTo (64 * (m + 1)) given
+    pub inherit-step : (r v : List Float) → v ≡ foursPut old a b c d (1024 * g + 256 * m) 64 r → r ≡ inheritedTo (64 * m) given → v ≡ inheritedTo (64 * (m + 1)) given
     unfolding inheritedTo
     inherit-step r v e q =
-        fours-swept 4096 4 (inheritTurn g) inStates old a b c d (1024 * g + 256 * m) (64 * m) given inherit-next r v (64 * (m + 1)) e q (omega arith)
+        fours-swept (inheritTurn g) inStates old a b c d (1024 * g + 256 * m) (64 * m) given inherit-next r v (64 * (m + 1)) e q (omega arith)
 
   pub inherit-start : (l : List Float) → length l ≡ 8192 → l ≡ inheritedTo 0 l
   unfolding inheritedTo

@@ -1,2 +1,3 @@
 pub mod Inheriting
 pub mod Laws
+pub mod Foretold

@@ -3,8 +3,9 @@ ghost use mathlib.Core.Path.{_≡_};
 ghost use Prim.Native.Nat.{_+_, _<_};
 ghost use lib.ListN.{length};
 ghost use Rattle.laws.specs.Places.{upto};
-ghost use Rattle.least_squares.specs.Lanes.{lanesOf, inverseIn, rowIn, fourIn, realIn};
-ghost use Rattle.least_squares.specs.LeastSquares.{projectedOf, crossedOf, denominatorOf, gainOf};
+ghost use Rattle.complex.specs.Complex.{productOf, conjugateProductOf};
+ghost use Rattle.least_squares.specs.Lanes.{pairAt, lanesOf, inverseIn, rowIn, fourIn, realIn};
+ghost use Rattle.least_squares.specs.LeastSquares.{fourSum, projectedOf, crossedOf, denominatorOf, gainOf};
 ghost use Rattle.lane_sums.specs.Layout.{projectedAt, crossedAt, denominatorAt, dividedAt};
 use complex::Complex32;
 use least_squares::EIGHTS;
@@ -12,23 +13,49 @@ use least_squares::FOURS;
 use least_squares::INVERSES;
 use least_squares::LANES;
 
+// A number of the inverse times the conjugate of a symbol.
+fn projection(w: &[f32; INVERSES], u: &[f32; FOURS], at: usize, l: usize) -> Complex32
+    requires { ⌜ (at < 1024) × (l < 64) ⌝ }
+    ensures { λ r. ⌜ r ≡ conjugateProductOf (pairAt 1024 (now (w .entry)) at) (pairAt 64 (now (u .entry)) l) ⌝ }
+{
+    Complex32 {
+        real: w[at] * u[l] + w[at + 1024] * u[l + 64],
+        imaginary: w[at + 1024] * u[l] - w[at] * u[l + 64],
+    }
+}
+
+// A symbol times a number of the inverse.
+fn crossing(w: &[f32; INVERSES], u: &[f32; FOURS], at: usize, l: usize) -> Complex32
+    requires { ⌜ (at < 1024) × (l < 64) ⌝ }
+    ensures { λ r. ⌜ r ≡ productOf (pairAt 64 (now (u .entry)) l) (pairAt 1024 (now (w .entry)) at) ⌝ }
+{
+    Complex32 {
+        real: u[l] * w[at] - u[l + 64] * w[at + 1024],
+        imaginary: u[l] * w[at + 1024] + u[l + 64] * w[at],
+    }
+}
+
+// Four numbers added to zero in turn.
+fn four_sum(a: Complex32, b: Complex32, c: Complex32, d: Complex32) -> Complex32
+    ensures { λ r. ⌜ r ≡ fourSum a b c d ⌝ }
+{
+    Complex32 {
+        real: 0.0 + a.real + b.real + c.real + d.real,
+        imaginary: 0.0 + a.imaginary + b.imaginary + c.imaginary + d.imaginary,
+    }
+}
+
 // The first four numbers of a row of the inverse, from a place on, times the symbols' conjugates.
 fn projected(w: &[f32; INVERSES], u: &[f32; FOURS], at: usize, l: usize) -> Complex32
     requires { ⌜ (at + 48 < 1024) × (l < 16) ⌝ }
     ensures { λ r. ⌜ r ≡ projectedAt (now (w .entry)) (now (u .entry)) at l ⌝ }
 {
-    Complex32 {
-        real: 0.0
-            + (w[at] * u[l] + w[at + 1024] * u[l + 64])
-            + (w[at + 16] * u[l + 16] + w[at + 16 + 1024] * u[l + 16 + 64])
-            + (w[at + 32] * u[l + 32] + w[at + 32 + 1024] * u[l + 32 + 64])
-            + (w[at + 48] * u[l + 48] + w[at + 48 + 1024] * u[l + 48 + 64]),
-        imaginary: 0.0
-            + (w[at + 1024] * u[l] - w[at] * u[l + 64])
-            + (w[at + 16 + 1024] * u[l + 16] - w[at + 16] * u[l + 16 + 64])
-            + (w[at + 32 + 1024] * u[l + 32] - w[at + 32] * u[l + 32 + 64])
-            + (w[at + 48 + 1024] * u[l + 48] - w[at + 48] * u[l + 48 + 64]),
-    }
+    four_sum(
+        projection(w, u, at, l),
+        projection(w, u, at + 16, l + 16),
+        projection(w, u, at + 32, l + 32),
+        projection(w, u, at + 48, l + 48),
+    )
 }
 
 // Of each lane: the first four columns of its inverse times its symbols' conjugates.
@@ -54,18 +81,12 @@ fn crossed(w: &[f32; INVERSES], u: &[f32; FOURS], at: usize, l: usize) -> Comple
     requires { ⌜ (at + 384 < 1024) × (l < 16) ⌝ }
     ensures { λ r. ⌜ r ≡ crossedAt (now (w .entry)) (now (u .entry)) at l ⌝ }
 {
-    Complex32 {
-        real: 0.0
-            + (u[l] * w[at] - u[l + 64] * w[at + 1024])
-            + (u[l + 16] * w[at + 128] - u[l + 16 + 64] * w[at + 128 + 1024])
-            + (u[l + 32] * w[at + 256] - u[l + 32 + 64] * w[at + 256 + 1024])
-            + (u[l + 48] * w[at + 384] - u[l + 48 + 64] * w[at + 384 + 1024]),
-        imaginary: 0.0
-            + (u[l] * w[at + 1024] + u[l + 64] * w[at])
-            + (u[l + 16] * w[at + 128 + 1024] + u[l + 16 + 64] * w[at + 128])
-            + (u[l + 32] * w[at + 256 + 1024] + u[l + 32 + 64] * w[at + 256])
-            + (u[l + 48] * w[at + 384 + 1024] + u[l + 48 + 64] * w[at + 384]),
-    }
+    four_sum(
+        crossing(w, u, at, l),
+        crossing(w, u, at + 128, l + 16),
+        crossing(w, u, at + 256, l + 32),
+        crossing(w, u, at + 384, l + 48),
+    )
 }
 
 // Of each lane: its symbols times the first four rows of its inverse.
@@ -86,15 +107,19 @@ pub fn cross(w: &[f32; INVERSES], u: &[f32; FOURS], row: &mut [f32; EIGHTS])
     }
 }
 
+// The real part of a symbol times what the symbols project.
+fn weight(u: &[f32; FOURS], v: &[f32; EIGHTS], l: usize) -> f32
+    requires { ⌜ l < 64 ⌝ }
+    ensures { λ r. ⌜ r ≡ productOf (pairAt 64 (now (u .entry)) l) (pairAt 128 (now (v .entry)) l) .real ⌝ }
+{
+    u[l] * v[l] - u[l + 64] * v[l + 128]
+}
+
 fn denominator(u: &[f32; FOURS], v: &[f32; EIGHTS], l: usize) -> f32
     requires { ⌜ l < 16 ⌝ }
     ensures { λ r. ⌜ r ≡ denominatorAt (now (u .entry)) (now (v .entry)) l ⌝ }
 {
-    0.8
-        + (u[l] * v[l] - u[l + 64] * v[l + 128])
-        + (u[l + 16] * v[l + 16] - u[l + 16 + 64] * v[l + 16 + 128])
-        + (u[l + 32] * v[l + 32] - u[l + 32 + 64] * v[l + 32 + 128])
-        + (u[l + 48] * v[l + 48] - u[l + 48 + 64] * v[l + 48 + 128])
+    0.8 + weight(u, v, l) + weight(u, v, l + 16) + weight(u, v, l + 32) + weight(u, v, l + 48)
 }
 
 // Of each lane: 0.8 and the real part of its symbols times what they project.

@@ -1,12 +1,12 @@
 -- The numbers of an inverse before and after a step, by the places of a room. Definitions that contracts of this crate and of those above it cite.
-use Prim.Native.Nat.{ℕ, _+_, _%_}
+use Prim.Native.Nat.{ℕ, _%_}
 use mathlib.Core.Bool.{cond}
 use mathlib.Core.List.{List}
 use lib.Dec.{ltb}
 use lib.Ieee.{Float, binary32, ofBits, add, sub, mul, div}
 use Rattle.complex.specs.declared.Complex32.{Complex32}
-use Rattle.complex.specs.Complex.{sumOf, differenceOf, productOf}
-use Rattle.least_squares.specs.Lanes.{pairAt, putPair}
+use Rattle.complex.specs.Complex.{differenceOf, productOf}
+use Rattle.least_squares.specs.Lanes.{pairAt}
 use Rattle.least_squares.specs.LeastSquares.{memory, overOf, meanOf, tapDoubt, driftDoubt}
 
 -- a number less gain times row, over 0.8, part by part
@@ -27,15 +27,3 @@ settledAt w gain row a b u v = meanOf (reducedIn w gain row a u v) (reducedIn w 
 -- the real part of the number e of an inverse that begins anew
 unfoldable pub priorAt : ℕ → Float
 priorAt e = cond (ltb 0 (e % 9)) (ofBits binary32 0) (cond (ltb e 36) tapDoubt driftDoubt)
-
--- a number of the upper left quarter of an inverse, the one right of it and the one below it, with what they take from each other and from the one across
-abbrev pub foretoldFour : List Float → ℕ → List Float
-foretoldFour w at =
-    let right = pairAt 1024 w (at + 64) in
-    let below = pairAt 1024 w (at + 512) in
-    let across = pairAt 1024 w (at + 576) in
-    putPair 1024
-    (putPair 1024
-    (putPair 1024 w at (sumOf (sumOf (pairAt 1024 w at) below) (sumOf right across)))
-    (at + 64) (sumOf right across))
-    (at + 512) (sumOf below across)

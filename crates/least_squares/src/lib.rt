@@ -3,7 +3,6 @@
 // part half a room further.
 pub mod entry;
 pub mod limits;
-pub mod quarters;
 pub mod step;
 
 // Rooms of sixteen inverses (8 x 8 numbers), of sixteen rows of 8, and of sixteen rows of 4.

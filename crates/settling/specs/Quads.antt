@@ -144,12 +144,16 @@ module _ (w gain row l : List Float) (i j from base : ℕ) (hj : j < 8) (lanes :
     rooms : (here + 4 ≤ 4096) × (over + 4 ≤ 4096)
     rooms = (omega arith, omega arith)
 
-    pub pair-is : second ≡ turned (pairTurn (base / 256)) (8 * i + j) (settledNumber w gain row) l
+    pair-is : second ≡ turned (pairTurn (base / 256)) (8 * i + j) (settledNumber w gain row) l
     pair-is =
         turned-is (pairTurn (base / 256)) (8 * i + j) (settledNumber w gain row) l second (pairs-four-length first over x0 x1 x2 x3 (neg y0) (neg y1) (neg y2) (neg y3) (rooms .1) first-length)
         in-turn
         (λ n b h. after n b (off n over (λ low high. h (in-second n low high)))
         ∙ pairs-four-out l here x0 x1 x2 x3 y0 y1 y2 y3 (rooms .0) len n b (off n here (λ low high. h (in-first n low high))))
+
+    pub pair-stored : (m v : List Float) → m ≡ first → v ≡ fourOf (fourOf m over x0 x1 x2 x3) (over + 4096) (neg y0) (neg y1) (neg y2) (neg y3)
+        → v ≡ turned (pairTurn (base / 256)) (8 * i + j) (settledNumber w gain row) l
+    pair-stored m v e q = q ∙ ap (λ (z : List Float). fourOf (fourOf z over x0 x1 x2 x3) (over + 4096) (neg y0) (neg y1) (neg y2) (neg y3)) e ∙ pair-is
 
 -- four lanes at (i, i)
 module _ (w gain row l : List Float) (i from base : ℕ) (h : i < 8) (lanes : from ≡ 4 * (base / 256 % 4)) (whole : base % 256 ≡ 0)
@@ -190,11 +194,14 @@ module _ (w gain row l : List Float) (i from base : ℕ) (h : i < 8) (lanes : fr
       (λ p. at-here n (omega (arith, p .0, eh, same)) (omega (arith, p .1, eh, same)))
       (turn-places (base / 256) i i n (omega arith) h e)
 
-  pub diagonal-is : stored ≡ turned (pairTurn (base / 256)) (8 * i + i) (settledNumber w gain row) l
+  diagonal-is : stored ≡ turned (pairTurn (base / 256)) (8 * i + i) (settledNumber w gain row) l
   diagonal-is =
       turned-is (pairTurn (base / 256)) (8 * i + i) (settledNumber w gain row) l stored (pairs-four-length l here x0 x1 x2 x3 y0 y1 y2 y3 fits len)
       in-diagonal
       (λ n b e. pairs-four-out l here x0 x1 x2 x3 y0 y1 y2 y3 fits len n b (off n here (λ low high. e (in-here n low high))))
+
+  pub diagonal-stored : (v : List Float) → v ≡ stored → v ≡ turned (pairTurn (base / 256)) (8 * i + i) (settledNumber w gain row) l
+  diagonal-stored v e = e ∙ diagonal-is
 
 -- ---- the turns of a quad, row after row
 

@@ -3,7 +3,7 @@
 ghost use mathlib.Core.Path.{_≡_};
 ghost use Prim.Native.Nat.{_+_, _*_, _/_, _%_, _<_, _≤_};
 ghost use lib.ListN.{length};
-ghost use Rattle.settling.specs.Layout.{turned, pairTurn, quadAt, settledNumber};
+ghost use Rattle.settling.specs.Layout.{fourOf, turned, pairTurn, quadAt, settledNumber};
 use least_squares::ALL;
 use least_squares::EIGHTS;
 use least_squares::INVERSES;
@@ -11,6 +11,32 @@ use least_squares::entry::diagonal_imaginary;
 use least_squares::entry::diagonal_real;
 use least_squares::entry::settled_imaginary;
 use least_squares::entry::settled_real;
+
+// Four numbers side by side, from a place on.
+fn put_four(
+    x0: f32,
+    x1: f32,
+    x2: f32,
+    x3: f32,
+    y0: f32,
+    y1: f32,
+    y2: f32,
+    y3: f32,
+    at: usize,
+    next: &mut [f32; ALL],
+)
+    requires { ⌜ at + 3 < 4096 ⌝ }
+    ensures { λ r. ⌜ now (next .exit) ≡ fourOf (fourOf (now (next .entry)) at x0 x1 x2 x3) (at + 4096) y0 y1 y2 y3 ⌝ }
+{
+    next[at] = x0;
+    next[at + 1] = x1;
+    next[at + 2] = x2;
+    next[at + 3] = x3;
+    next[at + 4096] = y0;
+    next[at + 4096 + 1] = y1;
+    next[at + 4096 + 2] = y2;
+    next[at + 4096 + 3] = y3;
+}
 
 // Four lanes from `from` on, at (i, j) and across. All is read before anything is written: the compiler then
 // makes it one operation for the four.
@@ -41,22 +67,8 @@ fn settle_pair(
     let y2 = settled_imaginary(w, gain, row, a + 2, b + 2, u + 2, v + 2);
     let x3 = settled_real(w, gain, row, a + 3, b + 3, u + 3, v + 3);
     let y3 = settled_imaginary(w, gain, row, a + 3, b + 3, u + 3, v + 3);
-    next[here] = x0;
-    next[here + 1] = x1;
-    next[here + 2] = x2;
-    next[here + 3] = x3;
-    next[here + 4096] = y0;
-    next[here + 4096 + 1] = y1;
-    next[here + 4096 + 2] = y2;
-    next[here + 4096 + 3] = y3;
-    next[over] = x0;
-    next[over + 1] = x1;
-    next[over + 2] = x2;
-    next[over + 3] = x3;
-    next[over + 4096] = -y0;
-    next[over + 4096 + 1] = -y1;
-    next[over + 4096 + 2] = -y2;
-    next[over + 4096 + 3] = -y3;
+    put_four(x0, x1, x2, x3, y0, y1, y2, y3, here, next);
+    put_four(x0, x1, x2, x3, -y0, -y1, -y2, -y3, over, next);
 }
 
 // Four lanes at (i, i), one number each.
@@ -84,14 +96,7 @@ fn settle_diagonal(
     let y2 = diagonal_imaginary(w, gain, row, a + 2, u + 2, far + 2);
     let x3 = diagonal_real(w, gain, row, a + 3, u + 3, far + 3);
     let y3 = diagonal_imaginary(w, gain, row, a + 3, u + 3, far + 3);
-    next[here] = x0;
-    next[here + 1] = x1;
-    next[here + 2] = x2;
-    next[here + 3] = x3;
-    next[here + 4096] = y0;
-    next[here + 4096 + 1] = y1;
-    next[here + 4096 + 2] = y2;
-    next[here + 4096 + 3] = y3;
+    put_four(x0, x1, x2, x3, y0, y1, y2, y3, here, next);
 }
 
 // Four lanes, all 64 numbers of each.

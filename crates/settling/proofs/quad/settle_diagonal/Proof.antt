@@ -1,6 +1,6 @@
--- `settling::quad::settle_diagonal` meets its contract. Assumes nothing.
+-- `settle_diagonal` meets its contract: four lanes of a number of the diagonal. Assumes nothing.
 use mathlib.Core.Path.{refl}
-use Rattle.settling.specs.Quads.{diagonal-is}
+use Rattle.settling.specs.Quads.{diagonal-stored}
 use borrow.Author.Needs.{needs}
 use Rattle.settling.proofs.quad.settle_diagonal.Statement.{statement}
 use Rattle.settling.proofs.quad.settle_diagonal.Tie as tie
@@ -104,90 +104,18 @@ add-diagonal-imaginary-9 c = search needs
 diagonal-imaginary-requires-4 : tie.Need-diagonal-imaginary-requires-4
 diagonal-imaginary-requires-4 c κs = search needs
 
-mul-next : tie.Need-mul-next
-mul-next c = search needs
-
-element-write-next : tie.Need-element-write-next
-element-write-next c = search needs
-
-add-next : tie.Need-add-next
-add-next c = search needs
-
-mul-next-2 : tie.Need-mul-next-2
-mul-next-2 c = search needs
-
-element-write-next-2 : tie.Need-element-write-next-2
-element-write-next-2 c = search needs
-
-add-next-2 : tie.Need-add-next-2
-add-next-2 c = search needs
-
-mul-next-3 : tie.Need-mul-next-3
-mul-next-3 c = search needs
-
-element-write-next-3 : tie.Need-element-write-next-3
-element-write-next-3 c = search needs
-
-add-next-3 : tie.Need-add-next-3
-add-next-3 c = search needs
-
-mul-next-4 : tie.Need-mul-next-4
-mul-next-4 c = search needs
-
-element-write-next-4 : tie.Need-element-write-next-4
-element-write-next-4 c = search needs
-
-add-next-4 : tie.Need-add-next-4
-add-next-4 c = search needs
-
-mul-next-5 : tie.Need-mul-next-5
-mul-next-5 c = search needs
-
-element-write-next-5 : tie.Need-element-write-next-5
-element-write-next-5 c = search needs
-
-add-next-5 : tie.Need-add-next-5
-add-next-5 c = search needs
-
-add-next-6 : tie.Need-add-next-6
-add-next-6 c = search needs
-
-mul-next-6 : tie.Need-mul-next-6
-mul-next-6 c = search needs
-
-element-write-next-6 : tie.Need-element-write-next-6
-element-write-next-6 c = search needs
-
-add-next-7 : tie.Need-add-next-7
-add-next-7 c = search needs
-
-add-next-8 : tie.Need-add-next-8
-add-next-8 c = search needs
-
-mul-next-7 : tie.Need-mul-next-7
-mul-next-7 c = search needs
-
-element-write-next-7 : tie.Need-element-write-next-7
-element-write-next-7 c = search needs
-
-add-next-9 : tie.Need-add-next-9
-add-next-9 c = search needs
-
-add-next-10 : tie.Need-add-next-10
-add-next-10 c = search needs
-
-mul-next-8 : tie.Need-mul-next-8
-mul-next-8 c = search needs
-
-element-write-next-8 : tie.Need-element-write-next-8
-element-write-next-8 c = search needs
+put-four-requires : tie.Need-put-four-requires
+put-four-requires c κs = search needs
 
 returns : tie.Need-returns
 returns c =
-    let asks = c .before .before .before .before .before .before .before .before .pre in
-    diagonal-is _ _ _ _ _ _ _ (asks .0) (asks .1) (asks .2) _ _ _ _ _ _ _ _ _ _ _
+    let last = c .before .before in
+    let asks = last .before .before .before .before .before .before .before .before .pre in
+    diagonal-stored _ _ _ _ _ _ _ (asks .0) (asks .1) (asks .2) _ _ _ _ _ _ _ _ _ _ _
     (asks .3) (asks .4) refl refl refl
-    (c .before .before .before .before .before .before .before .diagonal-real .ensures) (c .before .before .before .before .before .before .diagonal-imaginary .ensures) (c .before .before .before .before .before .diagonal-real2 .ensures) (c .before .before .before .before .diagonal-imaginary2 .ensures) (c .before .before .before .diagonal-real3 .ensures) (c .before .before .diagonal-imaginary3 .ensures) (c .before .diagonal-real4 .ensures) (c .diagonal-imaginary4 .ensures)
+    (last .before .before .before .before .before .before .before .diagonal-real .ensures) (last .before .before .before .before .before .before .diagonal-imaginary .ensures) (last .before .before .before .before .before .diagonal-real2 .ensures) (last .before .before .before .before .diagonal-imaginary2 .ensures)
+    (last .before .before .before .diagonal-real3 .ensures) (last .before .before .diagonal-imaginary3 .ensures) (last .before .diagonal-real4 .ensures) (last .diagonal-imaginary4 .ensures)
+    _ (c .put-four .ensures)
 
 pub settle-diagonal-spec : {M : Type 1} → statement M
 settle-diagonal-spec =
@@ -226,30 +154,5 @@ settle-diagonal-spec =
     add-diagonal-imaginary-8
     add-diagonal-imaginary-9
     diagonal-imaginary-requires-4
-    mul-next
-    element-write-next
-    add-next
-    mul-next-2
-    element-write-next-2
-    add-next-2
-    mul-next-3
-    element-write-next-3
-    add-next-3
-    mul-next-4
-    element-write-next-4
-    add-next-4
-    mul-next-5
-    element-write-next-5
-    add-next-5
-    add-next-6
-    mul-next-6
-    element-write-next-6
-    add-next-7
-    add-next-8
-    mul-next-7
-    element-write-next-7
-    add-next-9
-    add-next-10
-    mul-next-8
-    element-write-next-8
+    put-four-requires
     returns)

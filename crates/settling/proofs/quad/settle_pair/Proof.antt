@@ -1,6 +1,6 @@
--- `settling::quad::settle_pair` meets its contract. Assumes nothing.
+-- `settle_pair` meets its contract: four lanes of a number and of the one across the diagonal. Assumes nothing.
 use mathlib.Core.Path.{refl}
-use Rattle.settling.specs.Quads.{pair-is}
+use Rattle.settling.specs.Quads.{pair-stored}
 use borrow.Author.Needs.{needs}
 use Rattle.settling.proofs.quad.settle_pair.Statement.{statement}
 use Rattle.settling.proofs.quad.settle_pair.Tie as tie
@@ -161,168 +161,22 @@ add-settled-imaginary-12 c = search needs
 settled-imaginary-requires-4 : tie.Need-settled-imaginary-requires-4
 settled-imaginary-requires-4 c κs = search needs
 
-mul-next : tie.Need-mul-next
-mul-next c = search needs
+put-four-requires : tie.Need-put-four-requires
+put-four-requires c κs = search needs
 
-element-write-next : tie.Need-element-write-next
-element-write-next c = search needs
-
-add-next : tie.Need-add-next
-add-next c = search needs
-
-mul-next-2 : tie.Need-mul-next-2
-mul-next-2 c = search needs
-
-element-write-next-2 : tie.Need-element-write-next-2
-element-write-next-2 c = search needs
-
-add-next-2 : tie.Need-add-next-2
-add-next-2 c = search needs
-
-mul-next-3 : tie.Need-mul-next-3
-mul-next-3 c = search needs
-
-element-write-next-3 : tie.Need-element-write-next-3
-element-write-next-3 c = search needs
-
-add-next-3 : tie.Need-add-next-3
-add-next-3 c = search needs
-
-mul-next-4 : tie.Need-mul-next-4
-mul-next-4 c = search needs
-
-element-write-next-4 : tie.Need-element-write-next-4
-element-write-next-4 c = search needs
-
-add-next-4 : tie.Need-add-next-4
-add-next-4 c = search needs
-
-mul-next-5 : tie.Need-mul-next-5
-mul-next-5 c = search needs
-
-element-write-next-5 : tie.Need-element-write-next-5
-element-write-next-5 c = search needs
-
-add-next-5 : tie.Need-add-next-5
-add-next-5 c = search needs
-
-add-next-6 : tie.Need-add-next-6
-add-next-6 c = search needs
-
-mul-next-6 : tie.Need-mul-next-6
-mul-next-6 c = search needs
-
-element-write-next-6 : tie.Need-element-write-next-6
-element-write-next-6 c = search needs
-
-add-next-7 : tie.Need-add-next-7
-add-next-7 c = search needs
-
-add-next-8 : tie.Need-add-next-8
-add-next-8 c = search needs
-
-mul-next-7 : tie.Need-mul-next-7
-mul-next-7 c = search needs
-
-element-write-next-7 : tie.Need-element-write-next-7
-element-write-next-7 c = search needs
-
-add-next-9 : tie.Need-add-next-9
-add-next-9 c = search needs
-
-add-next-10 : tie.Need-add-next-10
-add-next-10 c = search needs
-
-mul-next-8 : tie.Need-mul-next-8
-mul-next-8 c = search needs
-
-element-write-next-8 : tie.Need-element-write-next-8
-element-write-next-8 c = search needs
-
-mul-next-9 : tie.Need-mul-next-9
-mul-next-9 c = search needs
-
-element-write-next-9 : tie.Need-element-write-next-9
-element-write-next-9 c = search needs
-
-add-next-11 : tie.Need-add-next-11
-add-next-11 c = search needs
-
-mul-next-10 : tie.Need-mul-next-10
-mul-next-10 c = search needs
-
-element-write-next-10 : tie.Need-element-write-next-10
-element-write-next-10 c = search needs
-
-add-next-12 : tie.Need-add-next-12
-add-next-12 c = search needs
-
-mul-next-11 : tie.Need-mul-next-11
-mul-next-11 c = search needs
-
-element-write-next-11 : tie.Need-element-write-next-11
-element-write-next-11 c = search needs
-
-add-next-13 : tie.Need-add-next-13
-add-next-13 c = search needs
-
-mul-next-12 : tie.Need-mul-next-12
-mul-next-12 c = search needs
-
-element-write-next-12 : tie.Need-element-write-next-12
-element-write-next-12 c = search needs
-
-add-next-14 : tie.Need-add-next-14
-add-next-14 c = search needs
-
-mul-next-13 : tie.Need-mul-next-13
-mul-next-13 c = search needs
-
-element-write-next-13 : tie.Need-element-write-next-13
-element-write-next-13 c = search needs
-
-add-next-15 : tie.Need-add-next-15
-add-next-15 c = search needs
-
-add-next-16 : tie.Need-add-next-16
-add-next-16 c = search needs
-
-mul-next-14 : tie.Need-mul-next-14
-mul-next-14 c = search needs
-
-element-write-next-14 : tie.Need-element-write-next-14
-element-write-next-14 c = search needs
-
-add-next-17 : tie.Need-add-next-17
-add-next-17 c = search needs
-
-add-next-18 : tie.Need-add-next-18
-add-next-18 c = search needs
-
-mul-next-15 : tie.Need-mul-next-15
-mul-next-15 c = search needs
-
-element-write-next-15 : tie.Need-element-write-next-15
-element-write-next-15 c = search needs
-
-add-next-19 : tie.Need-add-next-19
-add-next-19 c = search needs
-
-add-next-20 : tie.Need-add-next-20
-add-next-20 c = search needs
-
-mul-next-16 : tie.Need-mul-next-16
-mul-next-16 c = search needs
-
-element-write-next-16 : tie.Need-element-write-next-16
-element-write-next-16 c = search needs
+put-four-requires-2 : tie.Need-put-four-requires-2
+put-four-requires-2 c κs = search needs
 
 returns : tie.Need-returns
 returns c =
-    let asks = c .before .before .before .before .before .before .before .before .pre in
-    pair-is _ _ _ _ _ _ _ _ (asks .1) (asks .2) (asks .3) _ _ _ _ _ _ _ _ _ _ _ _ _ _
+    let first = c .before .before in
+    let last = first .before .before in
+    let asks = last .before .before .before .before .before .before .before .before .pre in
+    pair-stored _ _ _ _ _ _ _ _ (asks .1) (asks .2) (asks .3) _ _ _ _ _ _ _ _ _ _ _ _ _ _
     (asks .0) (asks .4) (asks .5) refl refl refl refl refl refl
-    (c .before .before .before .before .before .before .before .settled-real .ensures) (c .before .before .before .before .before .before .settled-imaginary .ensures) (c .before .before .before .before .before .settled-real2 .ensures) (c .before .before .before .before .settled-imaginary2 .ensures) (c .before .before .before .settled-real3 .ensures) (c .before .before .settled-imaginary3 .ensures) (c .before .settled-real4 .ensures) (c .settled-imaginary4 .ensures)
+    (last .before .before .before .before .before .before .before .settled-real .ensures) (last .before .before .before .before .before .before .settled-imaginary .ensures) (last .before .before .before .before .before .settled-real2 .ensures) (last .before .before .before .before .settled-imaginary2 .ensures)
+    (last .before .before .before .settled-real3 .ensures) (last .before .before .settled-imaginary3 .ensures) (last .before .settled-real4 .ensures) (last .settled-imaginary4 .ensures)
+    _ _ (first .put-four .ensures) (c .put-four2 .ensures)
 
 pub settle-pair-spec : {M : Type 1} → statement M
 settle-pair-spec =
@@ -380,56 +234,6 @@ settle-pair-spec =
     add-settled-imaginary-11
     add-settled-imaginary-12
     settled-imaginary-requires-4
-    mul-next
-    element-write-next
-    add-next
-    mul-next-2
-    element-write-next-2
-    add-next-2
-    mul-next-3
-    element-write-next-3
-    add-next-3
-    mul-next-4
-    element-write-next-4
-    add-next-4
-    mul-next-5
-    element-write-next-5
-    add-next-5
-    add-next-6
-    mul-next-6
-    element-write-next-6
-    add-next-7
-    add-next-8
-    mul-next-7
-    element-write-next-7
-    add-next-9
-    add-next-10
-    mul-next-8
-    element-write-next-8
-    mul-next-9
-    element-write-next-9
-    add-next-11
-    mul-next-10
-    element-write-next-10
-    add-next-12
-    mul-next-11
-    element-write-next-11
-    add-next-13
-    mul-next-12
-    element-write-next-12
-    add-next-14
-    mul-next-13
-    element-write-next-13
-    add-next-15
-    add-next-16
-    mul-next-14
-    element-write-next-14
-    add-next-17
-    add-next-18
-    mul-next-15
-    element-write-next-15
-    add-next-19
-    add-next-20
-    mul-next-16
-    element-write-next-16
+    put-four-requires
+    put-four-requires-2
     returns)

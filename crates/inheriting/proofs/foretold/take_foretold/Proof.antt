@@ -1,20 +1,20 @@
--- `inherit_inverses` meets its contract: after m turns the first 4 m states have their parents' inverses. Assumes nothing.
+-- `take_foretold` meets its contract: after m turns the room holds the inverses of the parents of the first 4 m states, one symbol on. Assumes nothing.
 use mathlib.Core.Path.{_≡_}
 use Prim.Native.Nat.{_+_, _-_, _*_, _≤_}
 use native.Mathlib.Omega.{arith}
-use Rattle.inheriting.specs.Laws.{inheritedTo, inherit-start, inherit-step, inherit-end}
+use Rattle.inheriting.specs.Foretold.{takenTo, take-start, take-step, take-end}
 use borrow.Author.Needs.{needs}
-use Rattle.inheriting.proofs.inherit_inverses.Statement.{statement}
-use Rattle.inheriting.proofs.inherit_inverses.Tie as tie
+use Rattle.inheriting.proofs.foretold.take_foretold.Statement.{statement}
+use Rattle.inheriting.proofs.foretold.take_foretold.Tie as tie
 
 abbrev Inv-loop : tie.InvT-loop
-Inv-loop old parents g next₀ m₀ next m = (m ≤ 4) × (next ≡ inheritedTo old parents g (64 * m) next₀)
+Inv-loop old parents g room₀ m₀ room m = (m ≤ 4) × (room ≡ takenTo old parents g (64 * m) room₀)
 
 abbrev μ-loop : tie.MeasureT-loop
-μ-loop old parents g next₀ m₀ next m = 4 - m
+μ-loop old parents g room₀ m₀ room m = 4 - m
 
 loop-holds : tie.Need-loop-holds Inv-loop μ-loop
-loop-holds c = (search needs, inherit-start _ _ _ _ (c .pre .2))
+loop-holds c = (search needs, take-start _ _ _ _ (c .pre .2))
 
 mul-s : tie.Need-mul-s Inv-loop μ-loop
 mul-s c = search needs
@@ -86,17 +86,11 @@ place-of-requires-4 c κs =
     let start = c .before .before .before .before .before .before .before .before .before in
     start .pre .1 .below (16 * start .args .g + 4 * c .before .before .before .before .before .before .before .before .loop .m + 3) (search needs)
 
-mul-copy-four : tie.Need-mul-copy-four Inv-loop μ-loop
-mul-copy-four c = search needs
+mul-gather-family : tie.Need-mul-gather-family Inv-loop μ-loop
+mul-gather-family c = search needs
 
-mul-copy-four-2 : tie.Need-mul-copy-four-2 Inv-loop μ-loop
-mul-copy-four-2 c = search needs
-
-add-copy-four : tie.Need-add-copy-four Inv-loop μ-loop
-add-copy-four c = search needs
-
-copy-four-requires : tie.Need-copy-four-requires Inv-loop μ-loop
-copy-four-requires c κs = search needs
+gather-family-requires : tie.Need-gather-family-requires Inv-loop μ-loop
+gather-family-requires c κs = search needs
 
 add-m : tie.Need-add-m Inv-loop μ-loop
 add-m c = search needs
@@ -111,15 +105,15 @@ loop-again c =
     let second = third .before .before in
     let first = second .before .before in (
       search needs,
-      inherit-step _ _ _ _ _ _ _ _ (search needs) (search needs) (first .place-of .ensures .0) (second .place-of2 .ensures .0) (third .place-of3 .ensures .0) (fourth .place-of4 .ensures .0) _ _ _
-          (c .copy-four .ensures) (first .before .before .before .loop .inv .1),
+      take-step _ _ _ _ _ _ _ _ (search needs) (first .place-of .ensures .0) (second .place-of2 .ensures .0) (third .place-of3 .ensures .0) (fourth .place-of4 .ensures .0) _ _ _
+          (c .gather-family .ensures) (first .before .before .before .loop .inv .1),
     )
 
 returns : tie.Need-returns Inv-loop μ-loop
-returns c = inherit-end _ _ _ _ _ _ (search needs) (c .before .loop .inv .1) (search needs) (search needs)
+returns c = take-end _ _ _ _ _ _ (c .before .loop .inv .1) (search needs) (search needs)
 
-pub inherit-inverses-spec : {M : Type 1} → statement M
-inherit-inverses-spec =
+pub take-foretold-spec : {M : Type 1} → statement M
+take-foretold-spec =
     tie.close
     (tie.spec
     Inv-loop
@@ -143,10 +137,8 @@ inherit-inverses-spec =
     element-copy-out-place-of-4
     cast-place-of-4
     place-of-requires-4
-    mul-copy-four
-    mul-copy-four-2
-    add-copy-four
-    copy-four-requires
+    mul-gather-family
+    gather-family-requires
     add-m
     loop-less
     loop-again
