@@ -46,6 +46,15 @@ pub followed-sized : (m : Memory) (row : List ℕ) (predictions : Planes) (input
 unfolding followedOf laidOut driftsOf inversesOf
 followed-sized m row predictions input reliable = record { real-size = length-upto _ 256; imaginary-size = length-upto _ 256; drift-size = pairs-length 256 _; inverse-size = pairs-length 4096 _ }
 
+-- ADMITTED IN, ADMITTED OUT
+pub detected-ranged : (d : DetectorPlace) (input : Complex32) (reliable : Bool) (oldest : Soft) (m : Memory) (costs : List Float) (parents : List ℕ)
+    → Sequence.Ranged d costs parents → RangedAfter (detectedOf d input reliable oldest m costs parents)
+unfolding detectedOf detectedWith
+detected-ranged d input reliable oldest m costs parents h = record {
+  skeleton = stepped-kept d input reliable oldest (readyOf m reliable .channels) costs parents h .0;
+  memory = followed-sized (readyOf m reliable) _ _ input reliable;
+}
+
 pub step-meets : (d : DetectorPlace) (input : Complex32) (reliable : Bool) (oldest : Soft) (m : Memory) (costs : List Float) (parents : List ℕ) (c : Planes) (s : Stepped) (after : Memory)
     → c ≡ channelsFor (m .channels) (m .drift) reliable
     → s ≡ steppedOf d input reliable oldest c costs parents
@@ -53,13 +62,7 @@ pub step-meets : (d : DetectorPlace) (input : Complex32) (reliable : Bool) (olde
     → Sequence.Ranged d costs parents
     → (_≡_ {A = DetectorStep} (record { detected = s .detected; memory = after; costs = s .costs; parents = s .parents }) (detectedOf d input reliable oldest m costs parents))
     × RangedAfter (record { detected = s .detected; memory = after; costs = s .costs; parents = s .parents })
-step-meets d input reliable oldest m costs parents c s after ec es ea h = (same, subst RangedAfter (sym same) kept)
+step-meets d input reliable oldest m costs parents c s after ec es ea h = (same, subst RangedAfter (sym same) (detected-ranged d input reliable oldest m costs parents h))
   where
     same : _≡_ {A = DetectorStep} (record { detected = s .detected; memory = after; costs = s .costs; parents = s .parents }) (detectedOf d input reliable oldest m costs parents)
     same = unfold detectedOf in unfold detectedWith in rw (ea, es, ec)
-
-    kept : RangedAfter (detectedOf d input reliable oldest m costs parents)
-    kept = unfold detectedOf in unfold detectedWith in record {
-      skeleton = stepped-kept d input reliable oldest (readyOf m reliable .channels) costs parents h .0;
-      memory = followed-sized (readyOf m reliable) _ _ input reliable;
-    }

@@ -1,0 +1,4 @@
+pub mod Carrier
+pub mod Ranges
+pub mod Lends
+pub mod Laws

@@ -1,0 +1,10 @@
+pub mod Second
+pub mod Rows
+pub mod Prior
+pub mod Admitted
+pub mod Ranges
+pub mod Lends
+pub mod Parts
+pub mod Laws
+pub mod AdmittedLaws
+pub mod FreshLaws
