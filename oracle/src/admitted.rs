@@ -1,6 +1,6 @@
 //! Document 01's admitted states, as a test that names the first clause that fails.
 
-use crate::dsp::{ClockRecovery, Resampler};
+use crate::dsp::{Carrier, ClockRecovery, Resampler};
 use crate::sequence::Sequence;
 use crate::state::State;
 
@@ -10,7 +10,6 @@ pub const MOST_SAMPLES: u64 = 1 << 52;
 pub fn admitted(state: &State) -> Result<(), &'static str> {
     let d = &state.demodulator;
     let symbols = &d.symbols;
-    let alternation = symbols.carrier.alternation;
     let all = [
         ("renormalising counter", d.renormalize < 4096),
         ("total", state.total <= MOST_SAMPLES),
@@ -21,8 +20,9 @@ pub fn admitted(state: &State) -> Result<(), &'static str> {
         ("next output", next_output(&d.resampler, state.arm_length())),
         ("peak keeper", symbols.head < 64 && symbols.fill <= 64),
         ("clock", clock(&symbols.clock)),
-        ("alternation", (0..=7).contains(&alternation)),
+        ("alternation", alternation(&symbols.carrier)),
         ("detector", detector(&symbols.carrier.sequence)),
+        ("second", symbols.alternate.as_ref().is_none_or(second)),
         (
             "view",
             symbols.signal.head < 1024 && symbols.signal.count <= 1024,
@@ -82,6 +82,15 @@ fn clock(c: &ClockRecovery) -> bool {
         && c.start < 256
         && (c.phase.is_nan() || (-16.0..=48.0).contains(&c.phase))
         && (c.rate.is_nan() || (-0.1..=0.1).contains(&c.rate))
+}
+
+/// An enabled second is held to what the first is held to.
+fn second(c: &Carrier) -> bool {
+    alternation(c) && detector(&c.sequence)
+}
+
+fn alternation(c: &Carrier) -> bool {
+    (0..=7).contains(&c.alternation)
 }
 
 fn detector(s: &Sequence) -> bool {

@@ -1,5 +1,5 @@
-//! What `bench/run` times on the Rust's side: blocks, setups or constellation reads, so many as the
-//! four words from standard input say, and a digest of what came out.
+//! What `bench/run` times on the Rust's side: blocks, setups, constellation reads or blocks of both
+//! streams, so many as the four words from standard input say, and a digest of what came out.
 
 use crate::dsp::Complex32;
 use crate::list::folded;
@@ -33,6 +33,7 @@ pub fn run() -> Result<(), String> {
         0 => blocks(&mut Dsp::new(rate, 100.0)?, &samples, block, count)?.0,
         1 => setups(rate, count)?,
         2 => reads(rate, &samples, count)?,
+        3 => both(rate, &samples, block, count)?,
         kind => return Err(format!("no kind {kind}")),
     };
     println!("{digest:016x}");
@@ -49,13 +50,33 @@ fn blocks(dsp: &mut Dsp, samples: &[Complex32], block: usize, count: u64) -> Res
         dsp.process_soft(&samples[at..at + block], &mut dibits, &mut soft)?;
         at += block;
         all += dibits.len();
-        for (&dibit, [first, second]) in dibits.iter().zip(&soft) {
-            digest = folded(digest, u64::from(dibit));
-            digest = folded(digest, u64::from(*first));
-            digest = folded(digest, u64::from(*second));
-        }
+        digest = told(digest, &dibits, &soft);
     }
     Ok((digest, all))
+}
+
+/// Both streams of an enabled receiver, one after the other in the digest.
+fn both(rate: f64, samples: &[Complex32], block: usize, count: u64) -> Result<u64, String> {
+    let mut dsp = Dsp::new(rate, 100.0)?;
+    dsp.enable_alternate();
+    let (mut dibits, mut soft) = (Default::default(), Default::default());
+    let (mut digest, mut at) = (0, 0);
+    for _ in 0..count {
+        if at + block > samples.len() {
+            at = 0;
+        }
+        dsp.process_dual(&samples[at..at + block], &mut dibits, &mut soft)?;
+        at += block;
+        for (dibits, soft) in dibits.iter().zip(&soft) {
+            digest = told(digest, dibits, soft);
+        }
+    }
+    Ok(digest)
+}
+
+fn told(digest: u64, dibits: &[u8], soft: &[[u8; 2]]) -> u64 {
+    let bytes = dibits.iter().zip(soft).flat_map(|(&dibit, [a, b])| [dibit, *a, *b]);
+    bytes.fold(digest, |h, byte| folded(h, u64::from(byte)))
 }
 
 fn setups(rate: f64, count: u64) -> Result<u64, String> {
@@ -80,7 +101,7 @@ fn reads(rate: f64, samples: &[Complex32], count: u64) -> Result<u64, String> {
 }
 
 /// The bytes of a receiver of a rate: itself, and on the heap its ring, the drift tracking's state (which
-/// we leave out), the resampler's taps and the clock's tables.
+/// the first detector has and never uses), the resampler's taps and the clock's tables.
 pub fn size(rate: &str) -> Result<(), String> {
     let rate = rate.parse().map_err(|_| format!("{rate}: not a number"))?;
     let dsp = Dsp::new(rate, 0.0)?;

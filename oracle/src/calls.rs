@@ -1,5 +1,5 @@
 //! The block call and the constellation read of document 01, on a state, and the commands that
-//! dump, load, list and judge states.
+//! dump, load, enable, list and judge states.
 
 use crate::admitted::{admitted, MOST_SAMPLES};
 use crate::helpers::{bits32, bits64};
@@ -9,6 +9,7 @@ use crate::random_state::random_state;
 use crate::receive::{accepted, write_dibits};
 use crate::samples::SampleFile;
 use crate::state::State;
+use crate::trace::Decision;
 use crate::{Complex32, Snapshot};
 use std::io::{self, Read, Write};
 
@@ -19,11 +20,23 @@ const PROGRAM_BLOCK: usize = 1024;
 pub struct Block {
     pub dibits: Vec<u8>,
     pub soft: Vec<[u8; 2]>,
+    /// The second stream.
+    pub others: Vec<u8>,
+    pub other_soft: Vec<[u8; 2]>,
     pub overload: u64,
     pub snapshot: Snapshot,
 }
 
-/// A block with enough room and a table of the state's own length; or the refusal's number.
+impl Block {
+    /// The decisions of both streams, side by side.
+    pub fn decisions(&self) -> Vec<[Decision; 2]> {
+        let first = self.dibits.iter().copied().zip(self.soft.iter().copied());
+        let second = self.others.iter().copied().zip(self.other_soft.iter().copied());
+        first.zip(second).map(|(a, b)| [a, b]).collect()
+    }
+}
+
+/// A block of both streams with enough room and a table of the state's own length; or the refusal's number.
 pub fn block(state: &mut State, samples: &[Complex32]) -> Result<Block, u32> {
     if admitted(state).is_err() {
         return Err(7);
@@ -38,15 +51,24 @@ pub fn block(state: &mut State, samples: &[Complex32]) -> Result<Block, u32> {
     }
     let room = 2 * samples.len() + 4;
     let (mut dibits, mut soft) = (vec![0; room], vec![[0; 2]; room]);
-    let written = state
-        .demodulator
-        .process_soft(samples, &mut dibits, Some(&mut soft));
-    dibits.truncate(written);
-    soft.truncate(written);
+    let (mut others, mut other_soft) = (dibits.clone(), soft.clone());
+    let written = state.demodulator.process_dual(
+        samples,
+        [&mut dibits, &mut others],
+        [&mut soft, &mut other_soft],
+    );
+    for stream in [&mut dibits, &mut others] {
+        stream.truncate(written);
+    }
+    for stream in [&mut soft, &mut other_soft] {
+        stream.truncate(written);
+    }
     state.total = total;
     Ok(Block {
         dibits,
         soft,
+        others,
+        other_soft,
         overload: overloads(samples),
         snapshot: state.demodulator.snapshot(),
     })
@@ -58,10 +80,11 @@ pub fn run(words: &[&str]) -> Result<(), String> {
     match options.words() {
         ["dump"] => dump(options.number("profile", 0)?),
         ["load", path] => load(path, options.text("lines")),
+        ["enable"] => enable(),
         ["show"] => put(from_input()?.listing().as_bytes()),
         ["view", room] => view(room.parse().map_err(|_| "ROOM is a whole number")?),
         ["admitted"] => judge(),
-        _ => Err("state dump, load, show, view or admitted".into()),
+        _ => Err("state dump, load, enable, show, view or admitted".into()),
     }
 }
 
@@ -111,7 +134,17 @@ fn load(path: &str, lines: Option<&str>) -> Result<(), String> {
     put(&state.to_bytes())
 }
 
-/// A line per dibit, then every number of the answer.
+/// Enables the second; a state that is not admitted stays as it is.
+fn enable() -> Result<(), String> {
+    let mut state = from_input()?;
+    match admitted(&state) {
+        Ok(()) => state.enable(),
+        Err(clause) => eprintln!("refused 7: {clause}"),
+    }
+    put(&state.to_bytes())
+}
+
+/// A line per dibit of the first stream, then every number of the answer.
 fn report(answer: &Result<Block, u32>) -> Vec<u8> {
     let mut text = Vec::new();
     let written = match answer {

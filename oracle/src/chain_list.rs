@@ -10,9 +10,15 @@
 //! The planes are made from the seed as `chain` does it, of the detector's kind of floats. A row's
 //! answer is a line: the digest of the number of dibits, of 264 dibits and 528 reliabilities that were
 //! 170 before, and of the whole state after it.
+//!
+//! Two more bytes, after the profile, say whether the run has a second (`second.rs`), whose six words
+//! then follow the number of rows, and whether both streams are asked for. A row of such a run is
+//! answered by the digest of the same, with as many bytes of the second stream after the first's, and
+//! with the second after the rest: whether it is enabled, its loop, its detector's place, channels,
+//! drifts, inverses, costs, parents and records.
 
 use crate::clock_list::{signal, PHASES, RATES, STRANGE};
-use crate::dsp::SymbolChain;
+use crate::dsp::{Carrier, SymbolChain};
 use crate::helpers::{bits32, bits64};
 use crate::list::folded;
 use crate::made::{self, Made};
@@ -20,11 +26,14 @@ use crate::random::Random;
 use crate::routines::{cosine, sine};
 use crate::samples::word64;
 use crate::sequence::Tracking;
+use crate::second::Made as Second;
 use crate::sequence_list::{detector, mixed_detector, mixed_point, Start};
 use crate::Complex32;
 use std::io::{self, BufWriter, Read, Write};
 
 const STATE: usize = 12;
+/// The words of a second.
+const SECOND: usize = 6;
 const ROOM: usize = 264;
 const BEFORE: u8 = 170;
 
@@ -105,6 +114,87 @@ fn mixed_chain(h: u64, c: &mut SymbolChain) -> u64 {
     mixed_planes(h, &c.signal.ring)
 }
 
+/// The second's: where it is not enabled, what is handed through.
+fn mixed_second(h: u64, enabled: bool, c: &mut Carrier) -> u64 {
+    let places = [
+        enabled.into(),
+        bits64(c.phase),
+        bits64(c.frequency),
+        c.alternation as u64,
+        c.locked as u64,
+        bits64(c.error),
+    ];
+    mixed_detector(places.into_iter().fold(h, folded), &mut c.sequence)
+}
+
+/// A run's chain, and its second as long as that is not enabled.
+struct Run {
+    chain: SymbolChain,
+    idle: Option<Carrier>,
+    second: bool,
+    both: bool,
+}
+
+impl Run {
+    fn from_words(state: &[u64], second: &[u64]) -> Self {
+        let mut run = Self {
+            chain: chain(state),
+            idle: None,
+            second: !second.is_empty(),
+            both: asks_both(state),
+        };
+        if run.second {
+            let made = Second::from_words(second);
+            let carrier = Some(made.carrier());
+            match made.enabled {
+                true => run.chain.alternate = carrier,
+                false => run.idle = carrier,
+            }
+        }
+        run
+    }
+
+    fn answer(&mut self, before: usize, values: &[u64]) -> u64 {
+        let mut dibits = [[BEFORE; ROOM]; 2];
+        let mut reliabilities = [[[BEFORE; 2]; ROOM]; 2];
+        let mut written = before;
+        for word in values {
+            let value = Complex32 {
+                real: f32::from_bits(*word as u32),
+                imaginary: f32::from_bits((*word >> 32) as u32),
+            };
+            if let Some(streams) = self.chain.process(value) {
+                let asked = if self.both { 2 } else { 1 };
+                for (stream, (dibit, soft)) in streams.into_iter().enumerate().take(asked) {
+                    dibits[stream][written] = dibit;
+                    reliabilities[stream][written] = soft;
+                }
+                written += 1;
+            }
+        }
+        let streams = if self.second { 2 } else { 1 };
+        let mut h = folded(0, written as u64);
+        for (dibits, reliabilities) in dibits.iter().zip(&reliabilities).take(streams) {
+            let bytes = dibits.iter().chain(reliabilities.iter().flatten());
+            h = bytes.fold(h, |h, b| folded(h, *b as u64));
+        }
+        let h = mixed_chain(h, &mut self.chain);
+        match (&mut self.chain.alternate, &mut self.idle) {
+            (Some(second), _) => mixed_second(h, true, second),
+            (None, Some(idle)) => mixed_second(h, false, idle),
+            (None, None) => h,
+        }
+    }
+}
+
+fn has_second(state: &[u64]) -> bool {
+    state[2] >> 40 & 255 == 1
+}
+
+fn asks_both(state: &[u64]) -> bool {
+    state[2] >> 48 & 255 == 1
+}
+
 fn write_answers() -> Result<(), String> {
     let mut bytes = Vec::new();
     io::stdin()
@@ -114,37 +204,18 @@ fn write_answers() -> Result<(), String> {
     let mut output = BufWriter::new(io::stdout());
     let mut rest = &words[..];
     while rest.len() > STATE {
-        let mut chain = chain(rest);
-        let rows = rest[STATE];
-        rest = &rest[STATE + 1..];
-        for _ in 0..rows {
+        let (state, body) = rest.split_at(STATE);
+        let second = if has_second(state) { SECOND } else { 0 };
+        let mut run = Run::from_words(state, &body[1..=second]);
+        rest = &body[1 + second..];
+        for _ in 0..body[0] {
             let count = (rest[0] & 0xffff_ffff) as usize;
-            let line = answer(&mut chain, (rest[0] >> 32) as usize, &rest[1..=count]);
+            let line = run.answer((rest[0] >> 32) as usize, &rest[1..=count]);
             writeln!(output, "{line:016x}").map_err(|e| e.to_string())?;
             rest = &rest[1 + count..];
         }
     }
     output.flush().map_err(|e| e.to_string())
-}
-
-fn answer(chain: &mut SymbolChain, before: usize, values: &[u64]) -> u64 {
-    let mut dibits = [BEFORE; ROOM];
-    let mut reliabilities = [[BEFORE; 2]; ROOM];
-    let mut written = before;
-    for word in values {
-        let value = Complex32 {
-            real: f32::from_bits(*word as u32),
-            imaginary: f32::from_bits((*word >> 32) as u32),
-        };
-        if let Some([(dibit, soft), _]) = chain.process(value) {
-            dibits[written] = dibit;
-            reliabilities[written] = soft;
-            written += 1;
-        }
-    }
-    let bytes = dibits.iter().chain(reliabilities.iter().flatten());
-    let h = bytes.fold(folded(0, written as u64), |h, b| folded(h, *b as u64));
-    mixed_chain(h, chain)
 }
 
 fn write_inputs() -> Result<(), String> {
@@ -157,6 +228,12 @@ fn write_inputs() -> Result<(), String> {
     }
     for n in 0..400 {
         list.handed_in(n);
+    }
+    list.second_from_fresh();
+    for filled in 0..=32 {
+        for n in 0..4 {
+            list.second_handed_in(filled, n);
+        }
     }
     let mut output = BufWriter::new(io::stdout());
     for word in list.words {
@@ -191,8 +268,21 @@ impl List {
     /// The values in rows of any length, over some dibits that stand there.
     fn run(&mut self, state: &[u64], values: &[Complex32]) {
         self.words.extend(state);
+        self.rows(&[], values);
+    }
+
+    /// The same with a second.
+    fn run_with(&mut self, state: &[u64], second: &Second, both: bool, values: &[Complex32]) {
+        let at = self.words.len();
+        self.words.extend(state);
+        self.words[at + 2] |= 1 << 40 | u64::from(both) << 48;
+        self.rows(&second.to_words(), values);
+    }
+
+    fn rows(&mut self, second: &[u64], values: &[Complex32]) {
         let rows = self.words.len();
         self.words.push(0);
+        self.words.extend(second);
         let mut rest = values;
         while !rest.is_empty() {
             let most = rest.len().min(256);
@@ -286,6 +376,76 @@ impl List {
 
     /// A few values into a state that no run reaches.
     fn handed_in(&mut self, n: u64) {
+        let state = self.any_state(n);
+        let values = self.any_values();
+        self.run(&state, &values);
+    }
+
+    fn any_values(&mut self) -> Vec<Complex32> {
+        (0..1 + self.random.below(8))
+            .map(|_| Complex32 {
+                real: self.any_part(),
+                imaginary: self.any_part(),
+            })
+            .collect()
+    }
+
+    /// With a second from the first value on, which is enabled or not, and from a first that is full.
+    fn second_from_fresh(&mut self) {
+        let off = Second::fresh(false);
+        let on = Second::fresh(true);
+        let clean = self.signal(0.0, 0.0);
+        self.run_with(&fresh(1), &off, true, &clean[..400]);
+        let echoing = self.echoing();
+        self.run_with(&fresh(0), &on, true, &echoing);
+        let noisy = self.signal(0.2, 0.01);
+        self.run_with(&fresh(1), &on, false, &noisy[..400]);
+        let faded = self.faded();
+        self.run_with(&fresh(1), &on, true, &faded);
+        let huge = self.huge();
+        self.run_with(&fresh(0), &on, true, &huge);
+        let strange = self.strange();
+        self.run_with(&fresh(0), &on, true, &strange[300..]);
+        for both in [true, false] {
+            let mut state = fresh(u64::from(both));
+            // the keeper and the clock are full, and so is the first detector
+            state[1] = 32 << 24;
+            state[2] |= 64 << 8;
+            state[3] = 100 << 16 | 8 << 32 | 1 << 48;
+            let values = self.signal(0.05, 0.004);
+            self.run_with(&state, &on, both, &values[..200]);
+        }
+    }
+
+    /// A few values into a state that no run reaches, with a second that is filled so far, and in one of
+    /// four runs not enabled.
+    fn second_handed_in(&mut self, filled: u64, n: u64) {
+        let state = self.any_state(filled + n);
+        let kinds = 1 + made::SIGNED;
+        let inverses = [made::KEPT, self.random.below(kinds)];
+        let start = Start {
+            seed: self.random.below(1 << 32),
+            floats: self.random.below(kinds),
+            costs: self.random.below(kinds),
+            write: self.random.below(32),
+            filled,
+            previous: self.random.below(5),
+            inverses: inverses[self.random.below(2) as usize],
+        };
+        let second = Second {
+            start,
+            enabled: n > 0,
+            alternation: self.random.below(8),
+            locked: self.random.below(2) == 1,
+            phase: self.loop_float(),
+            frequency: self.loop_float(),
+            error: self.loop_float(),
+        };
+        let values = self.any_values();
+        self.run_with(&state, &second, (filled + n) % 3 > 0, &values);
+    }
+
+    fn any_state(&mut self, n: u64) -> [u64; STATE] {
         let floats = [made::MODERATE, made::SPECIAL, made::ANY][(n % 3) as usize];
         let costs = [made::QUARTERS, made::SPECIAL, made::SIGNED, made::ANY, made::INFINITE];
         let start = Start {
@@ -307,7 +467,7 @@ impl List {
         ];
         let digits = 1 + self.random.below(52);
         let symbols = self.random.below(1 << digits);
-        let state = [
+        [
             start.seed,
             start.word(),
             bytes.iter().rev().fold(0, |word, byte| word << 8 | byte),
@@ -321,14 +481,7 @@ impl List {
             self.loop_float().to_bits(),
             self.loop_float().to_bits(),
             self.loop_float().to_bits(),
-        ];
-        let values: Vec<Complex32> = (0..1 + self.random.below(8))
-            .map(|_| Complex32 {
-                real: self.any_part(),
-                imaginary: self.any_part(),
-            })
-            .collect();
-        self.run(&state, &values);
+        ]
     }
 
     /// Cold and warm, near where they turn warm or have a symbol.

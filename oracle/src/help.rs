@@ -28,7 +28,9 @@ const AFTER_STAGES: &str = "
   state dump [--profile P] < SAMPLES > STATE
       the state after the samples, from a fresh receiver with the file's settings
   state load STATE [--lines FILE] < SAMPLES > STATE
-      the state after one block from STATE (as given where refused); FILE gets the answer
+      the state after one block from STATE (as given where refused); FILE gets the answer's first stream
+  state enable < STATE > STATE
+      the state with the second enabled (as given where it is not admitted)
   state show < STATE
       a line per word: name and value in hex
   state view ROOM < STATE
@@ -63,8 +65,8 @@ const AFTER_STAGES: &str = "
       runs of mixer, decimator and resampler together; a line per run, the digest of its values and
       its last state
   chain inputs > LIST | chain answers < LIST
-      rows of values for the chain, from fresh and from states made from seeds; a line per row, the
-      digest of its dibits and of the whole state after it
+      rows of values for the chain, from fresh and from states made from seeds, with the second and
+      without; a line per row, the digest of its dibits and of the whole state after it
   sequence inputs > LIST | sequence answers < LIST
       runs of the detector, from fresh and from states made from seeds; a line per step, the digest of
       its answer and of the whole state after it
@@ -83,10 +85,10 @@ const AFTER_STAGES: &str = "
       the matched filter's 1,025 taps, their derivatives, or a rate's tap table, a line each
   script edges | script signals SEED COUNT | script states SEED COUNT > LIST
       calls of the receiver: the edges of every check; signals cut into blocks; states and tables that
-      no setup made (src/script.rs says how a script is laid out)
+      no setup made (README.md says how a script is laid out)
   script answers < LIST
-      a line per setup, block and read: refusal and count, digest of the answer and of what was lent,
-      digest of the state
+      a line per setup, block, read and enabling: refusal and count, digest of the answer and of what was
+      lent, digest of the first's state, digest of the second's; what came to each call, to standard error
   story < SAMPLES
       a neighbour that goes off, silence, a weak channel: the dibits, and what is left of the neighbour
       (src/story.rs says of which signal)

@@ -53,6 +53,7 @@ mod routine_list;
 mod samples;
 mod script;
 mod script_writer;
+mod second;
 mod selftest;
 mod sequence_list;
 mod state;

@@ -1,9 +1,13 @@
 //! Random admitted states and tap tables that no run reaches.
 
 use crate::admitted::{admitted, MOST_SAMPLES};
+use crate::drift_edges::{denominators, traces, Entry};
+use crate::dsp::Carrier;
 use crate::random::Random;
-use crate::state::State;
+use crate::sequence::{DriftState, Inverse8, Sequence, Tracking};
+use crate::state::{second_words, State};
 use crate::Complex32;
+use std::sync::OnceLock;
 
 /// How far the free floats stray: moderate ones only, now and then a special one, or any pattern.
 #[derive(Clone, Copy)]
@@ -19,7 +23,9 @@ struct Maker {
 }
 
 /// The state of a seed. Seeds that leave 0, 1, 2 or 3 modulo 4 give: moderate floats; the same
-/// with costs as from a run; special values among them; any bit patterns.
+/// with costs as from a run; special values among them; any bit patterns. Of each 64 seeds the first
+/// 16 have no second, the next 16 one that is not enabled and holds anything, and the others one that
+/// is enabled; its detector is full, or its fill goes through all its values, by turns of 64 seeds.
 pub fn random_state(seed: u64) -> State {
     let manner = match seed % 4 {
         0 | 1 => Manner::Tame,
@@ -35,10 +41,16 @@ pub fn random_state(seed: u64) -> State {
     maker.front(&mut state);
     maker.keeper_and_view(&mut state);
     maker.clock(&mut state);
-    maker.carrier(&mut state);
-    maker.detector(&mut state);
+    let first = &mut state.demodulator.symbols.carrier;
+    maker.turn(first);
+    maker.detector(&mut first.sequence);
     if seed % 4 == 1 {
-        maker.costs_of_a_run(&mut state);
+        maker.costs_of_a_run(&mut first.sequence);
+    }
+    match seed / 16 % 4 {
+        0 => (),
+        1 => maker.idle(&mut state),
+        _ => maker.second(&mut state, seed),
     }
     if let Err(clause) = admitted(&state) {
         panic!("the state of seed {seed} is not admitted: {clause}");
@@ -242,8 +254,7 @@ impl Maker {
         self.fill(&mut c.ring);
     }
 
-    fn carrier(&mut self, state: &mut State) {
-        let c = &mut state.demodulator.symbols.carrier;
+    fn turn(&mut self, c: &mut Carrier) {
         c.phase = self.float64();
         c.frequency = self.float64();
         c.alternation = self.up_to(7) as i32;
@@ -251,8 +262,7 @@ impl Maker {
         c.error = self.float64();
     }
 
-    fn detector(&mut self, state: &mut State) {
-        let s = &mut state.demodulator.symbols.carrier.sequence;
+    fn detector(&mut self, s: &mut Sequence) {
         s.write = self.end_or_up_to(31) as usize;
         s.filled = self.end_or_up_to(32) as usize;
         s.previous = (!self.chance(4)).then(|| self.up_to(3) as usize);
@@ -281,11 +291,122 @@ impl Maker {
     }
 
     /// Costs from 0 to 48 in quarters, so that ties are common.
-    fn costs_of_a_run(&mut self, state: &mut State) {
-        for cost in &mut state.demodulator.symbols.carrier.sequence.costs {
+    fn costs_of_a_run(&mut self, s: &mut Sequence) {
+        for cost in &mut s.costs {
             *cost = self.up_to(192) as f32 / 4.0;
         }
     }
+
+    fn second(&mut self, state: &mut State, seed: u64) {
+        let mut c = Carrier::new(Tracking::Drift);
+        self.turn(&mut c);
+        self.detector(&mut c.sequence);
+        let turn = seed / 64;
+        c.sequence.filled = if turn % 2 == 0 { turn / 2 % 33 } else { 32 } as usize;
+        if seed % 4 == 1 {
+            self.costs_of_a_run(&mut c.sequence);
+        }
+        self.drift(&mut c.sequence.drift);
+        state.demodulator.symbols.alternate = Some(c);
+        if !self.chance(4) {
+            self.soon(state);
+        }
+    }
+
+    /// Lets values come soon, and symbols of them.
+    fn soon(&mut self, state: &mut State) {
+        let r = &mut state.demodulator.resampler;
+        r.decimation = 1;
+        r.counter = 0;
+        r.step = self.within(0.5, 2.0);
+        r.next_output = (r.input_index + 1) as f64 + self.unit();
+        state.demodulator.symbols.fill = 64;
+        state.derive_scale();
+    }
+
+    /// Drifts of this manner, and inverses: fresh, of this manner, with some numbers that stand out, or
+    /// at the limits of the update's two tests.
+    fn drift(&mut self, d: &mut DriftState) {
+        let small = self.chance(2);
+        for drift in d.drift.iter_mut().flatten() {
+            let z = self.complex();
+            let scale = if small { 1.0 / 256.0 } else { 1.0 };
+            drift.real = z.real * scale;
+            drift.imaginary = z.imaginary * scale;
+        }
+        match self.up_to(5) {
+            0 => (),
+            1 => self.fill(d.inverse.as_flattened_mut().as_flattened_mut()),
+            2 => self.scattered(&mut d.inverse),
+            3 => self.grown(&mut d.inverse),
+            4 => self.cases(&mut d.inverse, &limits()[0]),
+            _ => self.cases(&mut d.inverse, &limits()[1]),
+        }
+    }
+
+    /// Fresh inverses in which a few numbers of some states are special ones.
+    fn scattered(&mut self, inverses: &mut [Inverse8]) {
+        for inverse in inverses {
+            for _ in 0..self.up_to(3) {
+                let z = &mut inverse[self.up_to(7) as usize][self.up_to(7) as usize];
+                let part = if self.chance(2) { &mut z.real } else { &mut z.imaginary };
+                *part = match self.up_to(2) {
+                    0 => self.special(),
+                    1 => -0.0,
+                    _ => -*part - 0.5,
+                };
+            }
+        }
+    }
+
+    /// Fresh inverses that have grown, the trace to around its limit, or that have turned negative.
+    fn grown(&mut self, inverses: &mut [Inverse8]) {
+        for inverse in inverses {
+            let gain = match self.up_to(3) {
+                0 => -1.0,
+                1 => self.within(0.0, 1.0) as f32,
+                _ => self.within(300.0, 900.0) as f32,
+            };
+            for z in inverse.as_flattened_mut() {
+                z.real *= gain;
+                z.imaginary *= gain;
+            }
+        }
+    }
+
+    /// An inverse in each of four states that have their successors in common.
+    fn cases(&mut self, inverses: &mut [Inverse8], cases: &[Vec<Entry>]) {
+        let first = self.up_to(15) as usize;
+        for (state, inverse) in inverses.iter_mut().enumerate() {
+            for (row, column, z) in &cases[(first + state) % 16] {
+                inverse[*row][*column] = *z;
+            }
+        }
+    }
+
+    /// The words of a second that is not enabled: anything, also what no enabled one may hold.
+    fn idle(&mut self, state: &mut State) {
+        let mut c = Carrier::new(Tracking::Drift);
+        self.turn(&mut c);
+        self.detector(&mut c.sequence);
+        self.drift(&mut c.sequence.drift);
+        c.alternation = (self.random.word() >> 33) as i32;
+        let s = &mut c.sequence;
+        s.equalized = None;
+        s.write = self.random.word() as usize;
+        s.filled = self.random.word() as usize;
+        s.previous = s.previous.map(|_| self.random.word() as usize);
+        for parent in s.history.iter_mut().flatten() {
+            *parent = self.up_to(255) as u8;
+        }
+        state.idle = second_words(&mut c);
+    }
+}
+
+/// Inverses at the limits of the denominator and of the trace, 16 of each.
+fn limits() -> &'static [Vec<Vec<Entry>>; 2] {
+    static LIMITS: OnceLock<[Vec<Vec<Entry>>; 2]> = OnceLock::new();
+    LIMITS.get_or_init(|| [denominators().expect("such inverses are found"), traces()])
 }
 
 fn admitted_next(state: &State) -> bool {

@@ -2,22 +2,7 @@
 //! answers to each, with document 01's refusals around it. `crates/replay_receiver` reads the same
 //! scripts and answers them with the proved receiver.
 //!
-//! A script is a row of 8-byte little-endian words. Each entry has a head of eight words, the first
-//! of which says what it is:
-//!
-//! | | Words of the head | Words after it |
-//! |---|---|---|
-//! | 0 setup | rate, offset, profile, floats of table lent | |
-//! | 1 block | floats, dibits lent, reliabilities lent, floats of table lent, seed, gain | where the seed is 0, the floats, two to a word |
-//! | 2 read | floats lent | |
-//! | 3 word | place, value | |
-//! | 4 state | floats of table | 6,757 words of a state, then the table, two floats to a word |
-//!
-//! The state stands as the words of `state.rs` without the table. A refused setup leaves zeros. The
-//! table is 18,440 floats; all but a state's own stay between entries, and lent memory is filled with
-//! a pattern before each call, so that a stray write shows. Entries 0, 1 and 2 answer a line each:
-//! the refusal plus 16 x the count, the digest of the answer and all memory lent, the digest of the
-//! state.
+//! README.md says how a script is laid out, and what is answered.
 
 use crate::admitted::{admitted, MOST_SAMPLES};
 use crate::helpers::{bits32, bits64};
@@ -25,16 +10,14 @@ use crate::list::folded;
 use crate::overload::overloads;
 use crate::receive::accepted;
 use crate::samples::{read_full, word64};
-use crate::state::State;
+use crate::second::Made;
+use crate::state::{State, SECOND, STATE_WORDS, UNREAD};
 use crate::{Complex32, Snapshot};
 use std::io::{self, BufReader, BufWriter, Read, Write};
 
-pub const STATE_WORDS: usize = 6757;
 pub const TABLE_FLOATS: usize = 18_440;
 pub const MOST_FLOATS: usize = 131_080;
 const LONGEST_BLOCK: usize = 65_536;
-/// The detector's equalized observation, which is overwritten before it is read and no part of ours.
-const UNREAD: std::ops::Range<usize> = 48..51;
 
 /// Both halves of a word.
 fn halves(word: u64) -> [f32; 2] {
@@ -72,14 +55,81 @@ struct Line {
     answer: u64,
 }
 
-/// What a script came to.
+/// What a block is lent: bytes of the streams, and floats of the table.
+struct Rooms {
+    dibits: [usize; 2],
+    reliabilities: [usize; 2],
+    table: usize,
+}
+
+/// What an accepted block answers besides what it was lent.
+type Taken = (u64, u64, Snapshot);
+
+/// What a call came to, over a script.
 #[derive(Default)]
-struct Counts {
+struct Count {
     calls: u64,
     refused: u64,
     samples: u64,
     dibits: u64,
+    /// Of the samples, those on an enabled receiver, and the calls that took them.
+    enabled_calls: u64,
+    enabled_samples: u64,
+}
+
+/// What a script came to.
+#[derive(Default)]
+struct Counts {
+    blocks: Count,
+    both: Count,
+    /// Setups, reads and enablings.
+    others: Count,
+    enablings: u64,
     states: u64,
+    /// Of them, and of these those whose second a call then moved.
+    enabled_states: u64,
+    moved: u64,
+}
+
+impl Counts {
+    fn add(&mut self, head: &[u64], line: &Line, enabled: bool) {
+        let count = match head[0] {
+            1 => &mut self.blocks,
+            6 => &mut self.both,
+            _ => &mut self.others,
+        };
+        count.calls += 1;
+        if line.refusal > 0 {
+            count.refused += 1;
+            return;
+        }
+        self.enablings += u64::from(head[0] == 7);
+        if head[0] == 1 || head[0] == 6 {
+            count.samples += head[1] / 2;
+            count.dibits += line.count;
+            if enabled {
+                count.enabled_calls += 1;
+                count.enabled_samples += head[1] / 2;
+            }
+        }
+    }
+
+    fn report(&self) {
+        for (name, c) in [("take", &self.blocks), ("take_both", &self.both)] {
+            eprintln!(
+                "{name}: {} calls, {} of them refused, {} samples, {} dibits; enabled: {} calls, {} samples",
+                c.calls, c.refused, c.samples, c.dibits, c.enabled_calls, c.enabled_samples
+            );
+        }
+        eprintln!(
+            "{} setups, reads and enablings, {} of them refused; {} enabled",
+            self.others.calls, self.others.refused, self.enablings
+        );
+        eprintln!(
+            "{} states handed in, {} of them enabled, the second moved in {}",
+            self.states, self.enabled_states, self.moved
+        );
+    }
 }
 
 pub fn answers() -> Result<(), String> {
@@ -90,26 +140,35 @@ pub fn answers() -> Result<(), String> {
         table: vec![0.0; TABLE_FLOATS],
     };
     let mut counts = Counts::default();
+    // The second's digest as it was handed in, until it moves.
+    let mut given: Option<u64> = None;
+    let mut handed_in = false;
+    let digest = |words: &[u64]| words.iter().fold(0, |h, &x| folded(h, x));
     while let Some(head) = next_words(&mut input, 8, true)? {
         let Some(line) = desk.entry(&head, &mut input)? else {
-            counts.states += u64::from(head[0] == 4);
+            if head[0] == 4 || head[0] == 5 {
+                handed_in = true;
+                let second = &desk.words[SECOND..];
+                given = (second[0] == 1).then(|| digest(second));
+            }
             continue;
         };
-        counts.calls += 1;
-        counts.refused += u64::from(line.refusal > 0);
-        if head[0] == 1 && line.refusal == 0 {
-            counts.samples += head[1] / 2;
-            counts.dibits += line.count;
+        let (first, second) = desk.words.split_at(SECOND);
+        let enabled = second[0] == 1;
+        let (state, second) = (digest(first), digest(second));
+        counts.add(&head, &line, enabled);
+        counts.states += u64::from(handed_in);
+        counts.enabled_states += u64::from(handed_in && enabled);
+        handed_in = false;
+        if given.is_some_and(|before| before != second) {
+            counts.moved += 1;
+            given = None;
         }
-        let state = desk.words.iter().fold(0, |h, &x| folded(h, x));
         let first = line.refusal + 16 * line.count;
-        writeln!(output, "{first:016x} {:016x} {state:016x}", line.answer)
+        writeln!(output, "{first:016x} {:016x} {state:016x} {second:016x}", line.answer)
             .map_err(|e| e.to_string())?;
     }
-    eprintln!(
-        "{} calls, {} of them refused, {} samples, {} dibits, {} states handed in",
-        counts.calls, counts.refused, counts.samples, counts.dibits, counts.states
-    );
+    counts.report();
     output.flush().map_err(|e| e.to_string())
 }
 
@@ -145,18 +204,25 @@ impl Desk {
                 let room = size(4, TABLE_FLOATS)?;
                 Ok(Some(self.set_up(rate, offset, head[3] as i32, room)))
             }
-            1 => {
+            1 | 6 => {
                 let floats = size(1, MOST_FLOATS)?;
-                let rooms = [
-                    size(2, 4 * MOST_FLOATS)?,
-                    size(3, 4 * MOST_FLOATS)?,
-                    size(4, TABLE_FLOATS)?,
-                ];
+                let others = match head[0] {
+                    1 => [0, 0],
+                    _ => [head[7] as u32 as usize, (head[7] >> 32) as usize],
+                };
+                if others.iter().any(|&room| room > 4 * MOST_FLOATS) {
+                    return Err(format!("entry {head:x?}: more is lent than there is"));
+                }
+                let rooms = Rooms {
+                    dibits: [size(2, 4 * MOST_FLOATS)?, others[0]],
+                    reliabilities: [size(3, 4 * MOST_FLOATS)?, others[1]],
+                    table: size(4, TABLE_FLOATS)?,
+                };
                 let samples = match head[5] {
                     0 => floats_of(input, floats)?,
                     seed => seeded(seed, f32::from_bits(head[6] as u32), floats),
                 };
-                Ok(Some(self.block(&samples, rooms)))
+                Ok(Some(self.block(&samples, rooms, head[0] == 6)))
             }
             2 => Ok(Some(self.read(size(1, MOST_FLOATS)?))),
             3 => {
@@ -165,12 +231,20 @@ impl Desk {
             }
             4 => {
                 let floats = size(1, TABLE_FLOATS)?;
-                self.words = next_words(input, STATE_WORDS, false)?.unwrap_or_default();
-                self.words[UNREAD].fill(0);
+                let given = if head[2] == 1 { STATE_WORDS } else { SECOND };
+                self.words = next_words(input, given, false)?.unwrap_or_default();
+                self.words.resize(STATE_WORDS, 0);
+                self.leave_unread();
                 let table = floats_of(input, floats)?;
                 self.table[..floats].copy_from_slice(&table);
                 Ok(None)
             }
+            5 => {
+                self.words.truncate(SECOND);
+                self.words.extend(Made::from_words(&head[1..]).words());
+                Ok(None)
+            }
+            7 => Ok(Some(self.enable())),
             _ => Err(format!("no entry is called {}", head[0])),
         }
     }
@@ -208,7 +282,14 @@ impl Desk {
     fn keep(&mut self, mut state: State) {
         let bytes = state.to_bytes();
         self.words = bytes[..8 * STATE_WORDS].chunks_exact(8).map(word64).collect();
-        self.words[UNREAD].fill(0);
+        self.leave_unread();
+    }
+
+    /// The equalized observations are no part of ours.
+    fn leave_unread(&mut self) {
+        for range in UNREAD {
+            self.words[range].fill(0);
+        }
     }
 
     /// The state on the desk with the first 32c floats of the table, if it is admitted.
@@ -222,14 +303,16 @@ impl Desk {
         Some(state)
     }
 
-    fn block(&mut self, floats: &[f32], [dibit_room, reliability_room, table_room]: [usize; 3]) -> Line {
-        let mut dibits: Vec<u8> = (0..dibit_room).map(|i| (i % 251) as u8).collect();
-        let mut reliabilities: Vec<u8> = (0..reliability_room).map(|i| (i % 241) as u8).collect();
-        let rooms = [dibit_room, reliability_room, table_room];
-        let outcome = self.run(floats, rooms, &mut dibits, &mut reliabilities);
-        let (refusal, count, overload, snapshot) = match outcome {
-            Ok((count, overload, snapshot)) => (0, count, overload, snapshot),
-            Err(refusal) => (refusal, 0, 0, Snapshot::default()),
+    fn block(&mut self, floats: &[f32], rooms: Rooms, both: bool) -> Line {
+        let lent = |room: usize, modulus: usize| (0..room).map(|i| (i % modulus) as u8).collect();
+        let mut streams: [[Vec<u8>; 2]; 2] = [
+            [lent(rooms.dibits[0], 251), lent(rooms.reliabilities[0], 241)],
+            [lent(rooms.dibits[1], 239), lent(rooms.reliabilities[1], 233)],
+        ];
+        let outcome = self.run(floats, rooms.table, &mut streams, both);
+        let (refusal, (count, overload, snapshot)) = match outcome {
+            Ok(taken) => (0, taken),
+            Err(refusal) => (refusal, (0, 0, Snapshot::default())),
         };
         let answer = [
             refusal,
@@ -241,7 +324,7 @@ impl Desk {
             bits64(snapshot.frequency_offset_hz),
             snapshot.carrier_locked as u64,
         ];
-        let lent = dibits.iter().chain(&reliabilities);
+        let lent = streams.iter().flatten().flatten();
         let all = answer.into_iter().chain(lent.map(|&x| u64::from(x)));
         Line {
             refusal,
@@ -250,14 +333,14 @@ impl Desk {
         }
     }
 
-    /// Checks 7, 3, 4, 6, 5, then the Rust's own block.
+    /// Checks 7, 3, 4, 6, 5, then the Rust's own block of one stream or of both.
     fn run(
         &mut self,
         floats: &[f32],
-        [dibit_room, reliability_room, table_room]: [usize; 3],
-        dibits: &mut [u8],
-        reliabilities: &mut [u8],
-    ) -> Result<(u64, u64, Snapshot), u64> {
+        table_room: usize,
+        streams: &mut [[Vec<u8>; 2]; 2],
+        both: bool,
+    ) -> Result<Taken, u64> {
         let mut state = self.state().ok_or(7_u64)?;
         if table_room < 32 * state.arm_length() {
             return Err(3);
@@ -267,7 +350,10 @@ impl Desk {
         if floats.len() % 2 == 1 || n > LONGEST_BLOCK || total > MOST_SAMPLES {
             return Err(4);
         }
-        if dibit_room < 2 * n + 4 || reliability_room < 4 * n + 8 {
+        let short = |[dibits, reliabilities]: &[Vec<u8>; 2]| {
+            dibits.len() < 2 * n + 4 || reliabilities.len() < 4 * n + 8
+        };
+        if short(&streams[0]) || (both && short(&streams[1])) {
             return Err(6);
         }
         if !floats.iter().all(|x| x.is_finite()) {
@@ -278,17 +364,40 @@ impl Desk {
             imaginary: p[1],
         };
         let samples: Vec<Complex32> = floats.chunks_exact(2).map(sample).collect();
+        let [[dibits, reliabilities], [others, other_reliabilities]] = streams;
         let mut soft = vec![[0; 2]; dibits.len()];
-        let count = state
-            .demodulator
-            .process_soft(&samples, dibits, Some(&mut soft));
-        for (pair, given) in reliabilities.chunks_exact_mut(2).zip(&soft[..count]) {
-            pair.copy_from_slice(given);
+        let mut other_soft = vec![[0; 2]; others.len()];
+        let count = if both {
+            let softs = [&mut soft[..], &mut other_soft[..]];
+            state.demodulator.process_dual(&samples, [dibits, others], softs)
+        } else {
+            state.demodulator.process_soft(&samples, dibits, Some(&mut soft))
+        };
+        put_pairs(reliabilities, &soft[..count]);
+        if both {
+            put_pairs(other_reliabilities, &other_soft[..count]);
         }
         state.total = total;
         let snapshot = state.demodulator.snapshot();
         self.keep(state);
         Ok((count as u64, overloads(&samples), snapshot))
+    }
+
+    /// 7 and the state as given, or the state enabled.
+    fn enable(&mut self) -> Line {
+        let refusal = match self.state() {
+            None => 7,
+            Some(mut state) => {
+                state.enable();
+                self.keep(state);
+                0
+            }
+        };
+        Line {
+            refusal,
+            count: 0,
+            answer: folded(0, refusal),
+        }
     }
 
     fn read(&mut self, room: usize) -> Line {
@@ -313,5 +422,11 @@ impl Desk {
             count,
             answer: all.fold(0, folded),
         }
+    }
+}
+
+fn put_pairs(bytes: &mut [u8], pairs: &[[u8; 2]]) {
+    for (place, pair) in bytes.chunks_exact_mut(2).zip(pairs) {
+        place.copy_from_slice(pair);
     }
 }

@@ -6,7 +6,11 @@ use crate::overload::around_the_ends;
 use crate::plan::Plan;
 use crate::random::Random;
 use crate::random_state::random_state;
-use crate::script::{packed, STATE_WORDS, TABLE_FLOATS};
+use crate::made;
+use crate::script::{packed, TABLE_FLOATS};
+use crate::second::Made;
+use crate::sequence_list::Start;
+use crate::state::{SECOND, STATE_WORDS};
 use crate::Complex32;
 use std::io::{self, BufWriter, Write};
 
@@ -45,6 +49,8 @@ struct Rooms {
     dibits: usize,
     reliabilities: usize,
     table: usize,
+    /// The second stream's, where both are taken.
+    others: Option<[usize; 2]>,
 }
 
 impl Rooms {
@@ -55,6 +61,16 @@ impl Rooms {
             dibits: 2 * n + 4,
             reliabilities: 4 * n + 8,
             table: TABLE_FLOATS,
+            others: None,
+        }
+    }
+
+    /// Just enough of both streams.
+    fn both(floats: usize) -> Self {
+        let n = floats / 2;
+        Self {
+            others: Some([2 * n + 4, 4 * n + 8]),
+            ..Self::exact(floats)
         }
     }
 }
@@ -94,15 +110,27 @@ impl Script {
     }
 
     fn block_head(&mut self, floats: usize, rooms: Rooms, seed: u64, gain: u64) {
+        let [others, other_reliabilities] = rooms.others.unwrap_or_default();
         self.head(&[
-            1,
+            if rooms.others.is_some() { 6 } else { 1 },
             floats as u64,
             rooms.dibits as u64,
             rooms.reliabilities as u64,
             rooms.table as u64,
             seed,
             gain,
+            others as u64 | (other_reliabilities as u64) << 32,
         ]);
+    }
+
+    fn enable(&mut self) {
+        self.head(&[7]);
+    }
+
+    fn second(&mut self, made: &Made) {
+        let mut head = vec![5];
+        head.extend(made.to_words());
+        self.head(&head);
     }
 
     fn read(&mut self, room: usize) {
@@ -141,6 +169,7 @@ fn edges(s: &mut Script) {
         }
         s.read(2048);
     }
+    second_edges(s);
 }
 
 /// Both neighbours of a positive number, and itself.
@@ -331,23 +360,285 @@ fn broken(s: &mut Script, words: &[(usize, u64)]) {
     s.read(20);
 }
 
+// ---- the edges of the second
+
+fn second_edges(s: &mut Script) {
+    enablings(s);
+    both_refusals(s);
+    both_lengths(s);
+    second_clauses(s);
+    for fill in 0..=32 {
+        enabled_at(s, fill);
+        handed_in_at(s, fill);
+    }
+    for n in 0..8 {
+        not_enabled(s, n);
+    }
+    let plan = Plan::of("--rate 48000 --samples 1600 --profile 1 --noise 0.02 --echo 1,0.6,0.3")
+        .expect("the plan's options are ours");
+    s.set_up(plan.rate, plan.offset, plan.profile, AMPLE);
+    s.enable();
+    for (n, samples) in generated(&plan).file.samples.chunks(400).enumerate() {
+        let floats = flat(samples);
+        s.block(&floats, one_or_both(n % 2 == 0, floats.len()));
+    }
+    s.read(2048);
+}
+
+fn one_or_both(both: bool, floats: usize) -> Rooms {
+    if both {
+        Rooms::both(floats)
+    } else {
+        Rooms::exact(floats)
+    }
+}
+
+/// Nothing, a refused setup and a state that is not admitted; then once, at once again, and after
+/// blocks of either kind.
+fn enablings(s: &mut Script) {
+    s.set_up(0.0, 0.0, 0, AMPLE);
+    s.enable();
+    s.noise(20, Rooms::both(20), 1, 1.0);
+    s.read(20);
+    s.set_up(48000.0, 0.0, 0, AMPLE);
+    s.word(38, 8);
+    s.enable();
+    s.word(38, 7);
+    s.noise(1000, Rooms::both(1000), 1, 1.0);
+    s.enable();
+    s.enable();
+    for floats in [40, 1000] {
+        s.noise(floats, Rooms::exact(floats), 2, 1.0);
+        s.enable();
+        s.noise(floats, Rooms::both(floats), 3, 1.0);
+        s.enable();
+    }
+    s.word(SECOND + SECOND_ALTERNATION, 8);
+    s.enable();
+    s.read(20);
+}
+
+/// Every refusal of two streams alone and with each other, enabled and not; then what was refused
+/// without fault.
+fn both_refusals(s: &mut Script) {
+    // a letter for each fault: the first's state, the second's, table, floats, the four buffers, a
+    // sample that is not finite
+    const FAULTS: &str = "fstndrDRx";
+    let faults: Vec<char> = FAULTS.chars().collect();
+    for (k, first) in faults.iter().enumerate() {
+        for second in &faults[k..] {
+            let bad = |fault| *first == fault || *second == fault;
+            s.set_up(48000.0, 0.0, 0, AMPLE);
+            s.noise(400, Rooms::exact(400), 1, 1.25);
+            if k % 3 != 2 {
+                s.enable();
+            }
+            let mut floats: Vec<f32> = (0..40).map(|i| i as f32 / 16.0).collect();
+            let mut rooms = Rooms::both(40);
+            let mut others = [24, 88];
+            if bad('n') {
+                floats.pop();
+            }
+            if bad('x') {
+                floats[3] = f32::NAN;
+            }
+            rooms.dibits -= usize::from(bad('d'));
+            rooms.reliabilities -= usize::from(bad('r'));
+            others[0] -= usize::from(bad('D'));
+            others[1] -= usize::from(bad('R'));
+            rooms.others = Some(others);
+            if bad('t') {
+                rooms.table = 32 * 72 - 1;
+            }
+            if bad('f') {
+                s.word(41, 32);
+            }
+            if bad('s') {
+                s.word(SECOND + SECOND_FILL, 33);
+            }
+            s.block(&floats, rooms);
+            s.read(50);
+        }
+    }
+}
+
+/// Each of the four buffers one short, just long enough, and longer, for few and no samples.
+fn both_lengths(s: &mut Script) {
+    s.set_up(48000.0, -100.0, 0, AMPLE);
+    s.enable();
+    for floats in [0, 1, 2, 128] {
+        let exact = Rooms::both(floats);
+        let [others, reliabilities] = exact.others.unwrap_or_default();
+        for rooms in [
+            exact,
+            Rooms { dibits: exact.dibits - 1, ..exact },
+            Rooms { reliabilities: exact.reliabilities - 1, ..exact },
+            Rooms { others: Some([others - 1, reliabilities]), ..exact },
+            Rooms { others: Some([others, reliabilities - 1]), ..exact },
+            Rooms { others: Some([0, 0]), ..exact },
+            Rooms { others: Some([others + 3, reliabilities + 1]), ..exact },
+        ] {
+            s.noise(floats, rooms, 3, 1.0);
+        }
+    }
+    s.noise(20_000, Rooms::both(20_000), 7, 1.5);
+    s.read(2048);
+}
+
+/// Words of the second from its first on.
+const SECOND_ALTERNATION: usize = 3;
+const SECOND_PLACE: usize = 6;
+const SECOND_FILL: usize = 7;
+const SECOND_PREVIOUS: usize = 8;
+const SECOND_PARENTS: usize = 9457;
+
+/// Each clause of an admitted second at its end and one beyond, enabled and not: the words to set,
+/// then both streams, one of them, and a read.
+fn second_clauses(s: &mut Script) {
+    let mut cases: Vec<Vec<(usize, u64)>> = Vec::new();
+    for (place, values) in [
+        (SECOND_ALTERNATION, [7, 8, 255]),
+        (SECOND_PLACE, [31, 32, u64::MAX]),
+        (SECOND_FILL, [32, 33, u64::MAX]),
+        (SECOND_PARENTS, [63, 64, 255]),
+        (SECOND_PARENTS + 1000, [63, 64, 255]),
+        (SECOND_PARENTS + 2047, [63, 64, 255]),
+    ] {
+        cases.extend(values.map(|value| vec![(place, value)]));
+    }
+    for symbol in [0, 3, 4, u64::MAX] {
+        cases.push(vec![(SECOND_PREVIOUS, 1), (SECOND_PREVIOUS + 1, symbol)]);
+    }
+    for words in cases {
+        for enabled in [true, false] {
+            s.set_up(48000.0, 0.0, 0, AMPLE);
+            s.noise(200, Rooms::exact(200), 11, 1.0);
+            if enabled {
+                s.enable();
+            }
+            for (place, value) in &words {
+                s.word(SECOND + place, *value);
+            }
+            s.noise(60, Rooms::both(60), 12, 1.0);
+            s.noise(60, Rooms::exact(60), 13, 1.0);
+            s.read(20);
+            if !enabled {
+                s.enable();
+            }
+        }
+    }
+}
+
+/// Samples of the noise of seed 21 at 48,000 after which the first detector is filled so far: the clock's
+/// first symbols come closer than 10 samples.
+fn samples_to(fill: usize) -> usize {
+    match fill {
+        0..=2 => [425, 435, 440][fill],
+        _ => 415 + 10 * fill,
+    }
+}
+
+/// Enabled when the first detector is filled so far, and run until both are full.
+fn enabled_at(s: &mut Script, fill: usize) {
+    let floats = 2 * samples_to(fill);
+    s.set_up(48000.0, 200.0, [0, 1][fill % 2], AMPLE);
+    s.noise(floats, one_or_both(fill % 3 == 0, floats), 21, 1.0);
+    s.enable();
+    for (n, floats) in [20, 300, 400].into_iter().enumerate() {
+        s.noise(floats, one_or_both((n + fill) % 3 != 0, floats), 60 + n as u64, 1.0);
+    }
+    if fill % 4 == 0 {
+        // so weak that it becomes unreliable, and back
+        s.noise(500, Rooms::both(500), 63, 0.01);
+        s.noise(400, Rooms::both(400), 64, 1.0);
+    }
+}
+
+/// A second that is filled so far, of numbers of each kind, beside a first that is full or fills.
+fn handed_in_at(s: &mut Script, fill: usize) {
+    let floats = [600, 1000, 1600][fill % 3];
+    s.set_up(48000.0, 200.0, [1, 0][fill / 2 % 2], AMPLE);
+    s.noise(floats, Rooms::exact(floats), 1, 1.0);
+    let n = fill as u64;
+    let start = Start {
+        seed: 1000 + n,
+        floats: [1, 2, 1, 3, 0, 7][fill % 6],
+        costs: [made::QUARTERS, made::SPECIAL, made::SIGNED, made::INFINITE, made::ANY][fill % 5],
+        write: (7 * n) % 32,
+        filled: n,
+        previous: n % 5,
+        inverses: n % 8,
+    };
+    s.second(&Made {
+        start,
+        enabled: true,
+        alternation: n % 8,
+        locked: n % 2 == 1,
+        phase: [0.3, -3.0, f64::NAN, 1e300][fill % 4],
+        frequency: [0.01, -0.7, f64::INFINITY][fill % 3],
+        error: [0.1, f64::NAN, 50.0][fill / 3 % 3],
+    });
+    s.noise(60, one_or_both(fill % 4 != 0, 60), 2 + n, 1.0);
+    s.noise(800, one_or_both(fill % 4 != 1, 800), 3, 1.0);
+}
+
+/// Numbers of each kind in a second that is not enabled: every call hands them back, and an enabling
+/// puts fresh ones there.
+fn not_enabled(s: &mut Script, kind: u64) {
+    s.set_up(48000.0, 0.0, 0, AMPLE);
+    let start = Start {
+        seed: 77 + kind,
+        floats: kind,
+        costs: 7 - kind,
+        write: 3 * kind,
+        filled: 4 * kind,
+        previous: kind % 5,
+        inverses: kind,
+    };
+    s.second(&Made {
+        start,
+        enabled: false,
+        alternation: kind,
+        locked: true,
+        phase: f64::NAN,
+        frequency: -0.0,
+        error: f64::INFINITY,
+    });
+    s.noise(1000, Rooms::both(1000), 5, 1.0);
+    s.noise(41, Rooms::both(42), 5, 1.0);
+    s.noise(40, Rooms::exact(40), 6, 1.0);
+    s.read(30);
+    s.enable();
+    s.noise(400, Rooms::both(400), 7, 1.0);
+}
+
 // ---- at scale
 
-/// A signal with what a channel does to it, cut into blocks anywhere.
+/// A signal with what a channel does to it, cut into blocks anywhere. Of eight signals one is never
+/// enabled, four before the first block, two before any, and one before several.
 fn signal(s: &mut Script, seed: u64) {
     let mut random = Random::new(seed);
     let plan = random_plan(&mut random, seed);
     let floats = flat(&generated(&plan).file.samples);
+    let mut second = Random::new(seed.wrapping_add(55));
+    let (manner, late) = (second.below(8), second.below(floats.len() as u64) as usize);
+    let (ever, late) = (manner > 0, if manner > 4 { late } else { 0 });
     s.set_up(plan.rate, plan.offset, plan.profile, AMPLE);
-    let mut at = 0;
+    let (mut at, mut enabled) = (0, false);
     while at < floats.len() {
         let most = [2, 128, 2048, 10_000][random.below(4) as usize];
         let length = 2 * random.below(most / 2 + 1) as usize;
         let block = &floats[at..(at + length).min(floats.len())];
-        if random.below(8) == 0 {
-            refused(s, &mut random, block);
+        let again = manner == 7 && second.below(4) == 0;
+        if ever && at >= late && (!enabled || again) {
+            s.enable();
+            enabled = true;
         }
-        s.block(block, Rooms::exact(block.len()));
+        let rooms = one_or_both(second.below(2) == 0, block.len());
+        if random.below(8) == 0 {
+            refused(s, &mut random, block, rooms);
+        }
+        s.block(block, rooms);
         at += block.len();
         if random.below(8) == 0 {
             s.read(random.below(2100) as usize);
@@ -357,13 +648,14 @@ fn signal(s: &mut Script, seed: u64) {
 }
 
 /// The same block with something wrong.
-fn refused(s: &mut Script, random: &mut Random, block: &[f32]) {
-    let mut rooms = Rooms::exact(block.len());
+fn refused(s: &mut Script, random: &mut Random, block: &[f32], lent: Rooms) {
+    let mut rooms = lent;
     let mut floats = block.to_vec();
-    match random.below(4) {
-        0 => rooms.table = random.below(300) as usize,
-        1 => floats.push(0.5),
-        2 => rooms.reliabilities -= 1,
+    match (random.below(4), &mut rooms.others) {
+        (0, _) => rooms.table = random.below(300) as usize,
+        (1, _) => floats.push(0.5),
+        (2, Some(others)) => others[block.len() / 2 % 2] -= 1,
+        (2, None) => rooms.reliabilities -= 1,
         _ => {
             if let Some(last) = floats.last_mut() {
                 *last = f32::INFINITY;
@@ -422,7 +714,8 @@ fn random_plan(random: &mut Random, seed: u64) -> Plan {
     plan
 }
 
-/// An admitted state and a table that no setup made, some blocks and a read.
+/// An admitted state and a table that no setup made, some blocks of one stream or of both, and a read.
+/// One in eight seconds is made from a seed instead, and one in eight is enabled after the first block.
 fn state(s: &mut Script, seed: u64) {
     let mut state = random_state(seed);
     let mut random = Random::new(seed.wrapping_add(77));
@@ -432,12 +725,51 @@ fn state(s: &mut Script, seed: u64) {
         .iter()
         .map(|&w| f32::from_bits(w as u32))
         .collect();
-    s.head(&[4, taps.len() as u64]);
-    s.words(&words[..STATE_WORDS]);
+    let (first, second) = words[..STATE_WORDS].split_at(SECOND);
+    let given = second.iter().any(|&word| word != 0);
+    s.head(&[4, taps.len() as u64, given.into()]);
+    s.words(first);
+    if given {
+        s.words(second);
+    }
     s.words(&packed(&taps));
-    let floats = 2 * random.below(120) as usize;
+    // values may be due only after 600 samples
+    let most = [120, 900, 900, 900][random.below(4) as usize];
+    let floats = 2 * random.below(most) as usize;
     let gain = [1.0, 1.0, 0.05, 300.0, 1e38][random.below(5) as usize];
-    s.noise(floats, Rooms::exact(floats), seed + 1, gain);
-    s.noise(40, Rooms::exact(40), seed + 2, 1.0);
-    s.read(random.below(2100) as usize);
+    let room = random.below(2100) as usize;
+    if random.below(8) == 0 {
+        s.second(&random_second(&mut random, seed));
+    }
+    s.noise(floats, one_or_both(random.below(2) == 0, floats), seed + 1, gain);
+    if random.below(8) == 0 {
+        s.enable();
+    }
+    s.noise(200, one_or_both(random.below(2) == 0, 200), seed + 2, 1.0);
+    s.read(room);
+}
+
+fn random_second(random: &mut Random, seed: u64) -> Made {
+    let start = Start {
+        seed,
+        floats: random.below(1 + made::SIGNED),
+        costs: random.below(1 + made::SIGNED),
+        write: random.below(32),
+        filled: seed % 33,
+        previous: random.below(5),
+        inverses: random.below(1 + made::SIGNED),
+    };
+    let mut part = || match random.below(8) {
+        0 => f64::from_bits(random.word()),
+        k => k as f64 / 4.0 - 1.0,
+    };
+    Made {
+        start,
+        phase: part(),
+        frequency: part(),
+        error: part(),
+        enabled: random.below(4) != 0,
+        alternation: random.below(8),
+        locked: random.below(2) == 0,
+    }
 }

@@ -1,7 +1,8 @@
 //! The oracle's test of itself: clean signals are received right, the hand-driven stages give what
-//! the upstream's own run gives, and so does the hand-driven second tracker, whose list meets every
-//! edge; states survive dump and load, admitted states stay admitted, the five routines are as near the
-//! machine's as document 01 asks, and overload is counted by its table.
+//! the upstream's own run gives, with the second enabled and without, and so does the hand-driven
+//! second tracker, whose list meets every edge; one stream is the first of two; states survive dump
+//! and load, admitted states stay admitted, the five routines are as near the machine's as document 01
+//! asks, and overload is counted by its table.
 
 use crate::admitted::admitted;
 use crate::calls::block;
@@ -11,7 +12,7 @@ use crate::random::Random;
 use crate::random_state::random_state;
 use crate::state::State;
 use crate::table::unmet;
-use crate::trace::{traced, Decision};
+use crate::trace::traced;
 use crate::trellis::{first_cheapest, raw_costs};
 use crate::{accuracy, drift_list, overload, tracker, Complex32};
 
@@ -51,6 +52,7 @@ pub fn run(words: &[&str]) -> Result<(), String> {
         let plan = planned(channel)?;
         report(format!("stages by hand, {channel}"), by_hand(&plan));
         report(format!("dump and load midway, {channel}"), midway(&plan));
+        report(format!("enabled late, {channel}"), enabled_late(&plan));
     }
     report("document 01's numbers".into(), numbers_to_meet());
     report("overload".into(), overload::tested());
@@ -151,8 +153,17 @@ fn by_hand(plan: &Plan) -> Verdict {
     let samples = generated(plan).file.samples;
     let fresh = || State::fresh(plan.rate, plan.offset, plan.profile);
     let count = same_run(fresh(), fresh(), &samples)?;
+    let enabled = || {
+        let mut state = fresh();
+        state.enable();
+        state
+    };
+    let both = same_run(enabled(), enabled(), &samples)?;
+    if both != count {
+        return Err(format!("{count} dibits, but {both} with the second"));
+    }
     Ok(format!(
-        "{count} dibits, their reliabilities and the state agree"
+        "{count} dibits, their reliabilities and the state agree, with the second and without"
     ))
 }
 
@@ -162,8 +173,7 @@ fn same_run(mut own: State, mut hand: State, samples: &[Complex32]) -> Result<us
         let answer = block(&mut own, samples).map_err(|n| format!("refused {n}"))?;
         let decisions = traced(&mut hand.demodulator, samples, &mut |_, _| ());
         hand.total += samples.len() as u64;
-        let upstream: Vec<Decision> = answer.dibits.into_iter().zip(answer.soft).collect();
-        if decisions != upstream {
+        if decisions != answer.decisions() {
             return Err("decisions differ".into());
         }
         if own.to_bytes() != hand.to_bytes() {
@@ -201,6 +211,54 @@ fn midway(plan: &Plan) -> Verdict {
     Ok(format!(
         "{} bytes, {count} dibits after it agree",
         bytes.len()
+    ))
+}
+
+/// The symbols for which both streams are silent after an enabling.
+const SILENT: usize = 31;
+
+/// Enabled once dibits come, and again before every later block: the first stream is that of a receiver without the second,
+/// less the silent symbols; the call of one stream gives the first of two.
+fn enabled_late(plan: &Plan) -> Verdict {
+    let samples = generated(plan).file.samples;
+    let fresh = || State::fresh(plan.rate, plan.offset, plan.profile);
+    let (mut alone, mut late, mut one) = (fresh(), fresh(), fresh());
+    let (mut expected, mut streams, mut silent) = (Vec::new(), Vec::new(), SILENT);
+    for samples in samples.chunks(BLOCK) {
+        let enabled = !streams.is_empty();
+        if enabled {
+            late.enable();
+            one.enable();
+        }
+        let answer = |state: &mut State| block(state, samples).map_err(|n| format!("refused {n}"));
+        let given = answer(&mut alone)?.decisions();
+        let skipped = if enabled { silent.min(given.len()) } else { 0 };
+        silent -= skipped;
+        expected.extend(given[skipped..].iter().map(|[first, _]| *first));
+        let pairs = answer(&mut late)?.decisions();
+        streams.extend(pairs.iter().map(|[first, _]| *first));
+        let mut dibits = vec![0; 2 * samples.len() + 4];
+        let mut soft = vec![[0; 2]; dibits.len()];
+        let count = one.demodulator.process_soft(samples, &mut dibits, Some(&mut soft));
+        one.total += samples.len() as u64;
+        let single = dibits.into_iter().zip(soft).take(count);
+        if !single.eq(pairs.iter().map(|[first, _]| *first)) || one.to_bytes() != late.to_bytes() {
+            return Err("one stream is not the first of two".into());
+        }
+        if !enabled && pairs.iter().any(|[first, second]| first != second) {
+            return Err("before enabling the streams differ".into());
+        }
+    }
+    if streams != expected {
+        return Err("the first stream is another than without the second".into());
+    }
+    let counted = late.demodulator.symbols.symbols as usize;
+    if counted != streams.len() {
+        return Err(format!("{} dibits, {counted} counted", streams.len()));
+    }
+    Ok(format!(
+        "{counted} dibits, {} silent symbols not among them",
+        SILENT - silent
     ))
 }
 

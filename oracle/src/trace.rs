@@ -14,7 +14,7 @@ use std::f64::consts::PI;
 use std::io::{self, BufWriter, Write};
 
 /// The stages in their order, and what a line of each holds.
-pub const STAGES: [(&str, &str); 13] = [
+pub const STAGES: [(&str, &str); 14] = [
     ("mixer", "mixed value; oscillator; renormalising counter"),
     ("decimator", "value (with decimation 1 the mixed one)"),
     ("resampler", "value"),
@@ -35,6 +35,7 @@ pub const STAGES: [(&str, &str); 13] = [
         "dibit",
         "as delivered, by profile: value, first reliability, second",
     ),
+    ("second", "the second stream's dibit, the same way"),
 ];
 
 /// A dibit and its two reliabilities.
@@ -73,8 +74,8 @@ pub fn run(words: &[&str]) -> Result<(), String> {
 /// Takes a stage's name and, where it wants them, its values.
 pub type Print<'a> = dyn FnMut(&str, &dyn Fn() -> String) + 'a;
 
-/// The samples through every stage; the decisions in order.
-pub fn traced(d: &mut Demodulator, samples: &[Complex32], print: &mut Print) -> Vec<Decision> {
+/// The samples through every stage; the decisions of both streams in order.
+pub fn traced(d: &mut Demodulator, samples: &[Complex32], print: &mut Print) -> Vec<[Decision; 2]> {
     let mut decisions = Vec::new();
     for sample in samples {
         let sample = mixed(d, *sample);
@@ -140,7 +141,7 @@ fn resampled(r: &mut Resampler, sample: Complex32, print: &mut Print) -> Vec<Com
 }
 
 /// A resampled value through the chain.
-fn decided(chain: &mut SymbolChain, value: Complex32, print: &mut Print) -> Option<Decision> {
+fn decided(chain: &mut SymbolChain, value: Complex32, print: &mut Print) -> Option<[Decision; 2]> {
     let (levelled, reliable) = levelled(chain, value, print)?;
     let windows = chain.clock.process(levelled);
     print("clock", &|| match &windows {
@@ -161,20 +162,27 @@ fn decided(chain: &mut SymbolChain, value: Complex32, print: &mut Print) -> Opti
         let loop_values = [c.phase, c.rate].map(hex32).join(" ");
         format!("{loop_values} {} {} {}", c.start, c.count, c.position)
     });
-    let decision = followed(&mut chain.carrier, symbol, reliable, print);
+    let first = followed(&mut chain.carrier, symbol, reliable, print);
+    // The stages that are printed are the first's.
+    let second = match &mut chain.alternate {
+        Some(alternate) => followed(alternate, symbol, reliable, &mut |_, _| ()),
+        None => first,
+    };
     chain.signal.push(chain.carrier.sequence.equalized());
     print("view", &|| {
         let view = &chain.signal;
         pair(view.ring[(view.head + view.ring.len() - 1) % view.ring.len()])
     });
-    let (dibit, soft) = decision?;
+    let decisions = [first?, second?];
     chain.symbols += 1;
     chain.locked_symbols += i64::from(chain.carrier.locked);
-    let delivered = relabelled(chain.profile, dibit, soft);
-    print("dibit", &|| {
-        let (dibit, [first, second]) = delivered;
-        format!("{dibit} {first} {second}")
-    });
+    let delivered = decisions.map(|(dibit, soft)| relabelled(chain.profile, dibit, soft));
+    for (stream, decision) in ["dibit", "second"].into_iter().zip(delivered) {
+        print(stream, &|| {
+            let (dibit, [first, second]) = decision;
+            format!("{dibit} {first} {second}")
+        });
+    }
     Some(delivered)
 }
 

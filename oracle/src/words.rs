@@ -3,6 +3,7 @@
 
 use crate::helpers::{bits32, bits64};
 use crate::samples::word64;
+use std::fmt::Display;
 
 /// A number that is kept as one word.
 pub trait Number: Copy {
@@ -84,7 +85,7 @@ impl Number for f64 {
 
 /// Takes the words one by one in order and gives back the word that is to stand.
 pub trait Port {
-    fn pass(&mut self, name: &str, word: u64) -> Result<u64, String>;
+    fn pass(&mut self, name: &dyn Display, word: u64) -> Result<u64, String>;
 }
 
 pub struct Writer {
@@ -92,7 +93,7 @@ pub struct Writer {
 }
 
 impl Port for Writer {
-    fn pass(&mut self, _: &str, word: u64) -> Result<u64, String> {
+    fn pass(&mut self, _: &dyn Display, word: u64) -> Result<u64, String> {
         self.bytes.extend(word.to_le_bytes());
         Ok(word)
     }
@@ -103,7 +104,7 @@ pub struct Reader<'a> {
 }
 
 impl Port for Reader<'_> {
-    fn pass(&mut self, name: &str, _: u64) -> Result<u64, String> {
+    fn pass(&mut self, name: &dyn Display, _: u64) -> Result<u64, String> {
         if self.bytes.len() < 8 {
             return Err(format!("the state ends before {name}"));
         }
@@ -118,25 +119,25 @@ pub struct Lister {
 }
 
 impl Port for Lister {
-    fn pass(&mut self, name: &str, word: u64) -> Result<u64, String> {
+    fn pass(&mut self, name: &dyn Display, word: u64) -> Result<u64, String> {
         self.text.push_str(&format!("{name} {word:016x}\n"));
         Ok(word)
     }
 }
 
-pub fn one<T: Number>(port: &mut impl Port, name: &str, value: &mut T) -> Result<(), String> {
-    let word = port.pass(name, value.word())?;
+pub fn one<T: Number>(port: &mut impl Port, name: impl Display, value: &mut T) -> Result<(), String> {
+    let word = port.pass(&name, value.word())?;
     *value = T::from_word(word).ok_or_else(|| format!("{name}: {word:016x} does not fit"))?;
     Ok(())
 }
 
 pub fn row<'a, T: Number + 'a>(
     port: &mut impl Port,
-    name: &str,
+    name: impl Display,
     values: impl IntoIterator<Item = &'a mut T>,
 ) -> Result<(), String> {
     for (i, value) in values.into_iter().enumerate() {
-        one(port, &format!("{name} {i}"), value)?;
+        one(port, format_args!("{name} {i}"), value)?;
     }
     Ok(())
 }

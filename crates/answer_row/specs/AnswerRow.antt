@@ -15,6 +15,14 @@ pub record AnswerRow : Type 0 where
 unfoldable pub answerAt : AnswerRow → ℕ → Answer
 answerAt row k = cond (getD (row .flags) (2 * k) false) (Dibit (getD (row .bytes) (3 * k) 0) (getD (row .bytes) (3 * k + 1) 0) (getD (row .bytes) (3 * k + 2) 0)) Silent
 
+-- whether there is a dibit, in a row and of an answer
+abbrev pub toldAt : List Bool → ℕ → Bool
+toldAt flags k = getD flags (2 * k) false
+
+abbrev pub isDibit : Answer → Bool
+isDibit Silent = false
+isDibit (Dibit dibit high low) = true
+
 abbrev pub lockedAt : List Bool → ℕ → Bool
 lockedAt flags k = getD flags (2 * k + 1) false
 

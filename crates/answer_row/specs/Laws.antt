@@ -9,7 +9,7 @@ use lib.ListN.{length, length-set, getD, set}
 use lib.Seq.{getD-set-same, getD-set-other}
 use Rattle.answers.specs.declared.walk.Answer.{Answer}
 use Rattle.answers.specs.declared.walk.Answer.the-variants.{Silent, Dibit}
-use Rattle.answer_row.specs.AnswerRow.{AnswerRow, answerAt, lockedAt, flagsPut, bytesPut, putOf, Sized}
+use Rattle.answer_row.specs.AnswerRow.{AnswerRow, answerAt, toldAt, isDibit, lockedAt, flagsPut, bytesPut, putOf, Sized}
 
 -- ---- a put's two ways
 pub put-silent : (row : AnswerRow) (k : ℕ) (a : Answer) (locked : Bool) → a ≡ Silent
@@ -81,6 +81,10 @@ pub locked-put : (row : AnswerRow) (k : ℕ) (a : Answer) (locked : Bool) → Si
 locked-put row k Silent locked s h = locked-there (row .flags) k false locked (s .flags) h
 locked-put row k (Dibit d i l) locked s h = locked-there (row .flags) k true locked (s .flags) h
 
+pub told-put : (row : AnswerRow) (k : ℕ) (a : Answer) (locked : Bool) → Sized row → k < 256 → toldAt (putOf row k a locked .flags) k ≡ isDibit a
+told-put row k Silent locked s h = told-there (row .flags) k false locked (s .flags) h
+told-put row k (Dibit d i l) locked s h = told-there (row .flags) k true locked (s .flags) h
+
 -- ---- NO OTHER ANSWER IS TOUCHED
 pub answer-kept : (row : AnswerRow) (k : ℕ) (a : Answer) (locked : Bool) (m : ℕ) → m ≢ k → answerAt (putOf row k a locked) m ≡ answerAt row m
 unfolding answerAt
@@ -96,3 +100,7 @@ answer-kept row k (Dibit d i l) locked m n =
 pub locked-kept : (row : AnswerRow) (k : ℕ) (a : Answer) (locked : Bool) (m : ℕ) → m ≢ k → lockedAt (putOf row k a locked .flags) m ≡ lockedAt (row .flags) m
 locked-kept row k Silent locked m n = flag-elsewhere (row .flags) k false locked (2 * m + 1) (λ e. omega arith) (λ e. n (omega arith))
 locked-kept row k (Dibit d i l) locked m n = flag-elsewhere (row .flags) k true locked (2 * m + 1) (λ e. omega arith) (λ e. n (omega arith))
+
+pub told-kept : (row : AnswerRow) (k : ℕ) (a : Answer) (locked : Bool) (m : ℕ) → m ≢ k → toldAt (putOf row k a locked .flags) m ≡ toldAt (row .flags) m
+told-kept row k Silent locked m n = flag-elsewhere (row .flags) k false locked (2 * m) (λ e. n (omega arith)) (λ e. omega arith)
+told-kept row k (Dibit d i l) locked m n = flag-elsewhere (row .flags) k true locked (2 * m) (λ e. n (omega arith)) (λ e. omega arith)

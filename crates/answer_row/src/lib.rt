@@ -4,7 +4,7 @@
 // it the reliabilities of its higher and lower bit.
 ghost use mathlib.Core.Path.{_≡_};
 ghost use Prim.Native.Nat.{_<_};
-ghost use Rattle.answer_row.specs.AnswerRow.{putOf, answerAt, lockedAt};
+ghost use Rattle.answer_row.specs.AnswerRow.{putOf, answerAt, toldAt, lockedAt};
 ghost use Rattle.answer_row.specs.Lends.{leavesAnswers};
 use answers::walk::Answer;
 
@@ -44,6 +44,14 @@ pub fn answer_at(at: usize, flags: &[bool; FLAGS], bytes: &[u8; BYTES]) -> Answe
         return Answer::Dibit(bytes[3 * at], bytes[3 * at + 1], bytes[3 * at + 2]);
     }
     Answer::Silent
+}
+
+// Whether there is a dibit for a symbol of the row.
+pub fn is_told_at(at: usize, flags: &[bool; FLAGS]) -> bool
+    requires { ⌜ at < 256 ⌝ }
+    ensures { λ r. ⌜ r ≡ toldAt (now (flags .entry)) at ⌝ }
+{
+    flags[2 * at]
 }
 
 // Whether the carrier is locked after a symbol of the row.

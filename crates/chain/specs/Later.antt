@@ -1,8 +1,7 @@
--- The second stage and the third, symbol by symbol; and THE ROW BETWEEN THEM: to decide a row and then to deliver its answers is the same. Assumes nothing.
-use mathlib.Core.Path.{_≡_, sym, ap, _∙_}
-use Prim.Native.Nat.{ℕ, zero, suc, _≤_}
-use native.Mathlib.Omega.{arith}
-use mathlib.Core.Bool.{Bool, false}
+-- The later stages over a row of symbols, symbol by symbol: both streams decide, and what both answer is delivered. Definitions only.
+use mathlib.Core.Path.{_≡_}
+use Prim.Native.Nat.{ℕ}
+use mathlib.Core.Bool.{Bool, true, false}
 use mathlib.Core.List.{List}
 use lib.ListN.{getD, set}
 use lib.Ieee.{Float}
@@ -11,56 +10,58 @@ use Rattle.complex.specs.declared.Complex32.{Complex32}
 use Rattle.complex.specs.Planes.{pointAt}
 use Rattle.answers.specs.declared.soft.Slot.{Slot}
 use Rattle.answers.specs.Observed.{slotOf, recordBefore}
+use Rattle.answer_row.specs.AnswerRow.{isDibit}
 use Rattle.recovery.specs.Recovery as Recovery
 use Rattle.decisions.specs.Decisions as Decisions
 use Rattle.decisions.specs.Rows as Decided
 use Rattle.decisions.specs.Ranges as DecisionsRanges
-use Rattle.decisions.specs.Laws as DecisionsLaws
+use Rattle.second.specs.Second as Second
+use Rattle.second.specs.Second.{SecondState, otherOf}
+use Rattle.second.specs.Ranges as SecondRanges
 use Rattle.delivery.specs.Delivery as Delivery
-use Rattle.delivery.specs.Rows as Delivered
-use Rattle.delivery.specs.Laws as DeliveryLaws
+use Rattle.delivery.specs.Delivery.{pairedOf, Room, notedIn}
+use Rattle.delivery.specs.Ranges as DeliveryRanges
 use Rattle.chain.specs.Chain.{decisionsOf, deliveryOf, joinedOf}
 use Rattle.chain.specs.Rows.{Lent}
+use Rattle.chain.specs.Ranges.{RoomyToo}
 
--- what both have, with no row between them
+-- what they have, with no row between them
 pub record Later : Type 0 where
   pub state : Decisions.DecisionsState
   pub records : List Slot
+  pub second : SecondState
   pub delivery : Delivery.Lent
+  pub other : Room
 
 -- what is lent, with the stages apart
 abbrev pub laterOf : Lent → Later
-laterOf l = record { state = decisionsOf (l .state); records = l .records; delivery = record { place = deliveryOf (l .state .place); room = l .room } }
+laterOf l = record { state = decisionsOf (l .state); records = l .records; second = l .state .second; delivery = record { place = deliveryOf (l .state .place); room = l .room }; other = l .other }
 
 abbrev pub joinedLent : Recovery.RecoveryState → Later → Lent
-joinedLent r l = record { state = joinedOf r (l .state) (l .delivery .place); records = l .records; room = l .delivery .room }
+joinedLent r l = record { state = joinedOf r (l .state) (l .second) (l .delivery .place); records = l .records; room = l .delivery .room; other = l .other }
 
-abbrev saidWith : Later → Decisions.Step → Later
-saidWith l s = record {
-  state = s .state;
-  records = set (l .records) (Decided.slotAt (l .state)) (slotOf (s .soft));
-  delivery = Delivery.deliveredOf (l .delivery) (s .answer) (Decisions.lockedOf (s .state));
+abbrev pub saidWith : Later → Decisions.Step → Second.Step → Later
+saidWith l first second = record {
+  state = first .state;
+  records = set (l .records) (Decided.slotAt (l .state)) (slotOf (first .soft));
+  second = second .state;
+  delivery = Delivery.deliveredOf (l .delivery) (pairedOf (first .answer) (isDibit (second .answer))) (Decisions.lockedOf (first .state));
+  other = notedIn (l .delivery .place .profile) (l .other) (pairedOf (second .answer) (isDibit (first .answer)));
 }
 
--- a symbol decided, and its answer delivered
+-- a symbol decided by both, and what both answer delivered
 unfoldable pub saidOf : Later → Complex32 → Bool → Later
-saidOf l z sure = saidWith l (Decisions.decidedOf (l .state) z sure (recordBefore (l .records) (Decided.slotAt (l .state))))
+saidOf l z sure =
+    let first = Decisions.decidedOf (l .state) z sure (recordBefore (l .records) (Decided.slotAt (l .state))) in
+    saidWith l first (otherOf (l .second) (first .answer) z sure)
 
-module _ (real imaginary : List Float) (reliable : List Bool) where
-  -- the first n symbols of a row
-  unfoldable pub saidRow : ℕ → Later → Later
-  saidRow n l = turns (λ k l. saidOf l (pointAt (record { real = real; imaginary = imaginary }) k) (getD reliable k false)) n l
+-- the first n symbols of a row
+unfoldable pub saidRow : List Float → List Float → List Bool → ℕ → Later → Later
+saidRow real imaginary reliable n l = turns (λ k l. saidOf l (pointAt (record { real = real; imaginary = imaginary }) k) (getD reliable k false)) n l
 
-  -- a row of symbols decided, and then its row of answers delivered, is each symbol decided and delivered in turn
-  pub rows-said : (n : ℕ) (d : Decided.Lent) (t : Delivery.Lent) → n ≤ 256 → DecisionsRanges.Asks d
-      → _≡_ {A = Later}
-      (record { state = Decided.rowOf real imaginary reliable n d .state; records = Decided.rowOf real imaginary reliable n d .records; delivery = Delivered.rowOf (Decided.rowOf real imaginary reliable n d .answers) n t })
-      (saidRow n (record { state = d .state; records = d .records; delivery = t }))
-  unfolding saidRow saidOf Decided.rowOf Decided.linkedOf turns
-  rows-said zero d t m h = ap (λ (l : Delivery.Lent). record { state = d .state; records = d .records; delivery = l }) (sym (DeliveryLaws.row-start (d .answers) t))
-  rows-said (suc n) d t m h =
-      let a = Decided.rowOf real imaginary reliable n d in
-      let s = Decisions.decidedOf (a .state) (pointAt (record { real = real; imaginary = imaginary }) n) (getD reliable n false) (recordBefore (a .records) (Decided.slotAt (a .state))) in
-      ap (λ (l : Delivery.Lent). record { state = s .state; records = set (a .records) (Decided.slotAt (a .state)) (slotOf (s .soft)); delivery = l })
-      (DeliveryLaws.row-put (a .answers) n (s .answer) (Decisions.lockedOf (s .state)) t (DecisionsLaws.row-asks real imaginary reliable n d h .answers) (omega arith))
-      ∙ ap (λ (l : Later). saidOf l (pointAt (record { real = real; imaginary = imaginary }) n) (getD reliable n false)) (rows-said n d t (omega arith) h)
+-- n symbols more can be taken
+pub record Asks (both : Bool) (n : ℕ) (l : Later) : Type 0 where
+  pub state : DecisionsRanges.Ranged (l .state)
+  pub second : l .second .enabled ≡ true → SecondRanges.Ranged (l .second)
+  pub delivery : DeliveryRanges.Asks n (l .delivery)
+  pub other : RoomyToo both n (l .other)

@@ -1,9 +1,10 @@
 pub mod Chain
 pub mod Rows
-pub mod Lends
 pub mod Ranges
+pub mod Later
+pub mod Lends
 pub mod RangesKept
 pub mod RowLaws
-pub mod Later
+pub mod LaterLaws
 pub mod Stages
 pub mod Laws

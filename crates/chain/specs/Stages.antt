@@ -1,5 +1,4 @@
--- THE STAGES: the chain value by value is the first stage over the row of values, then the second over its row of symbols, then the third over its row of answers.
--- Assumes nothing.
+-- THE STAGES: the chain value by value is the first stage over the row of values, then the later ones over its row of symbols. Assumes nothing.
 use mathlib.Core.Path.{_≡_, refl, sym, ap, _∙_}
 use Prim.Native.Nat.{ℕ, zero, suc, _+_, _*_, _≤_}
 use native.Mathlib.Omega.{arith}
@@ -23,7 +22,7 @@ use Rattle.recovery.specs.Laws as RecoveryLaws
 use Rattle.decisions.specs.Rows as Decided
 use Rattle.delivery.specs.Delivery as Delivery
 use Rattle.chain.specs.Chain.{ChainState, recoveryOf, joinedOf, Step, heardOf, steppedOf}
-use Rattle.chain.specs.Rows.{dibitsOf, pairOf, recordsAfter, Told, start, slotAt, nextOf, told, ranOf, Room, laidIn, Lent, laidOver, valuesOf}
+use Rattle.chain.specs.Rows.{dibitsOf, pairOf, othersOf, otherPairOf, recordsAfter, Told, start, slotAt, nextOf, told, ranOf, Room, laidIn, Lent, laidOver, valuesOf}
 use Rattle.chain.specs.Ranges.{Ranged}
 use Rattle.chain.specs.RowLaws.{all-ran, laid-more}
 use Rattle.chain.specs.Later.{Later, laterOf, joinedLent, saidOf, saidRow}
@@ -81,13 +80,17 @@ linkedWith l s = record {
   state = s .state;
   records = recordsAfter (s .outcome) (slotAt (l .state)) (l .records);
   room = laidIn (l .room) (dibitsOf (s .outcome)) (pairOf (s .outcome));
+  other = laidIn (l .other) (othersOf (s .outcome)) (otherPairOf (s .outcome));
 }
 
 -- without a symbol nothing is written, and a symbol is decided and delivered
 heard-linked : (f : Found) (m : ChainState) (r : Recovery.RecoveryState) (d : Later) → slotAt m ≡ Decided.slotAt (d .state)
-    → linkedWith (record { state = m; records = d .records; room = d .delivery .room }) (heardOf f r (d .state) (d .delivery .place) (recordBefore (d .records) (Decided.slotAt (d .state)))) ≡ joinedLent r (saidBy f d)
+    → linkedWith (record { state = m; records = d .records; room = d .delivery .room; other = d .other }) (heardOf f r (d .state) (d .second) (d .delivery .place) (recordBefore (d .records) (Decided.slotAt (d .state)))) ≡ joinedLent r (saidBy f d)
 unfolding heardOf saidOf Delivery.deliveredOf
-heard-linked Nothing m r d e = let n : d .delivery .room .written + 0 ≡ d .delivery .room .written = omega arith in rw n
+heard-linked Nothing m r d e =
+    let n : d .delivery .room .written + 0 ≡ d .delivery .room .written = omega arith in
+    let o : d .other .written + 0 ≡ d .other .written = omega arith in
+    rw (n, o)
 heard-linked (Here z sure) m r d e = rw e
 
 module _ (taps derivatives : List Float) where
@@ -97,14 +100,16 @@ module _ (taps derivatives : List Float) where
   value-staged : (r : Recovery.RecoveryState) (d : Later) (z : Complex32)
       → linkedOf (joinedLent r d) z ≡ joinedLent (Recovery.steppedOf taps derivatives r z .state) (saidBy (Recovery.steppedOf taps derivatives r z .found) d)
   unfolding steppedOf
-  value-staged r d z = let k = Recovery.steppedOf taps derivatives r z in heard-linked (k .found) (joinedOf r (d .state) (d .delivery .place)) (k .state) d refl
+  value-staged r d z = let k = Recovery.steppedOf taps derivatives r z in heard-linked (k .found) (joinedOf r (d .state) (d .second) (d .delivery .place)) (k .state) d refl
 
-  laid-told : (room : Room) (t : Told) (z : Complex32) → length (t .reliabilities) ≡ 2 * length (t .dibits) → linkedOf (laidOver room t) z ≡ laidOver room (told taps derivatives t z)
+  laid-told : (room other : Room) (t : Told) (z : Complex32) → length (t .reliabilities) ≡ 2 * length (t .dibits) → length (t .otherReliabilities) ≡ 2 * length (t .others)
+      → linkedOf (laidOver room other t) z ≡ laidOver room other (told taps derivatives t z)
   unfolding told
-  laid-told room t z h =
+  laid-told room other t z h k =
       let s = nextOf taps derivatives (t .state) (t .records) z in
-      ap (λ (r : Room). record { state = s .state; records = recordsAfter (s .outcome) (slotAt (t .state)) (t .records); room = r })
-      (laid-more room (t .dibits) (t .reliabilities) (dibitsOf (s .outcome)) (pairOf (s .outcome)) h)
+      let first = laid-more room (t .dibits) (t .reliabilities) (dibitsOf (s .outcome)) (pairOf (s .outcome)) h in
+      let second = laid-more other (t .others) (t .otherReliabilities) (othersOf (s .outcome)) (otherPairOf (s .outcome)) k in
+      λ i. record { state = s .state; records = recordsAfter (s .outcome) (slotAt (t .state)) (t .records); room = first i; other = second i }
 
   -- ---- a row, value by value
   module _ (real imaginary : List Float) where
@@ -117,12 +122,18 @@ module _ (taps derivatives : List Float) where
         let e : suc i ≡ i + 1 = omega arith in
         ap (toldAt s records) e ∙ rw (upto-more (pointAt (record { real = real; imaginary = imaginary })) i, foldl-append)
 
-    none-told : (l : Lent) → l ≡ laidOver (l .room) (toldAt (l .state) (l .records) 0)
+    none-told : (l : Lent) → l ≡ laidOver (l .room) (l .other) (toldAt (l .state) (l .records) 0)
     unfolding ranOf valuesOf upto
-    none-told l = let e : l .room .written + 0 ≡ l .room .written = omega arith in rw e
+    none-told l =
+        let e : l .room .written + 0 ≡ l .room .written = omega arith in
+        let f : l .other .written + 0 ≡ l .other .written = omega arith in
+        rw (e, f)
 
     told-pairs : (s : ChainState) (records : List Slot) (i : ℕ) → Ranged s → length (toldAt s records i .reliabilities) ≡ 2 * length (toldAt s records i .dibits)
     told-pairs s records i h = let p = all-ran taps derivatives (valuesOf real imaginary i) (start s records) h .pairs in omega arith
+
+    other-pairs : (s : ChainState) (records : List Slot) (i : ℕ) → Ranged s → length (toldAt s records i .otherReliabilities) ≡ 2 * length (toldAt s records i .others)
+    other-pairs s records i h = let p = all-ran taps derivatives (valuesOf real imaginary i) (start s records) h .other-pairs in omega arith
 
     -- ---- THE LAW: a row of values recovered, and its symbols decided and delivered, is the row value by value
     abbrev pub symbolsBy : ℕ → Recovery.RecoveryState → Recovered.Symbols → Recovered.Lent
@@ -130,7 +141,7 @@ module _ (taps derivatives : List Float) where
 
     pub staged : (n : ℕ) (l : Lent) (row : Recovered.Symbols) → row .count ≡ 0 → RecoveryRanges.Asks n (record { state = recoveryOf (l .state); symbols = row }) → Ranged (l .state)
         → joinedLent (symbolsBy n (recoveryOf (l .state)) row .state) (over (symbolsBy n (recoveryOf (l .state)) row .symbols) (laterOf l))
-        ≡ laidOver (l .room) (toldAt (l .state) (l .records) n)
+        ≡ laidOver (l .room) (l .other) (toldAt (l .state) (l .records) n)
     unfolding Recovered.rowOf Recovered.linkedOf turns
     staged zero l row e h k = ap (joinedLent (recoveryOf (l .state))) (over-none row (laterOf l) e) ∙ none-told l
     staged (suc n) l row e h k =
@@ -142,5 +153,5 @@ module _ (taps derivatives : List Float) where
         ap (joinedLent (s .state)) (over-put (a .symbols) (s .found) (laterOf l) (asks .symbols))
         ∙ sym (value-staged (a .state) (over (a .symbols) (laterOf l)) z)
         ∙ ap (λ (m : Lent). linkedOf m z) (staged n l row e (RecoveryLaws.fewer taps derivatives real imaginary (suc n) n b (omega arith) h) k)
-        ∙ laid-told (l .room) (toldAt (l .state) (l .records) n) z (told-pairs (l .state) (l .records) n k)
-        ∙ ap (laidOver (l .room)) (sym (told-more (l .state) (l .records) n))
+        ∙ laid-told (l .room) (l .other) (toldAt (l .state) (l .records) n) z (told-pairs (l .state) (l .records) n k) (other-pairs (l .state) (l .records) n k)
+        ∙ ap (laidOver (l .room) (l .other)) (sym (told-more (l .state) (l .records) n))

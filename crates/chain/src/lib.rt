@@ -1,7 +1,8 @@
-// The chain: a row of resampled values to dibits, in three stages: recovery (peak keeper, clock,
-// equalizer) makes a row of symbols of it, decisions (carrier with detector, view) a row of answers of
-// that, and delivery (labels, counts) writes these where the caller says. Rings, weights, channels and
-// the view's points are planes that the caller lends; the soft records go by value.
+// The chain: a row of resampled values to dibits. Recovery (peak keeper, clock, equalizer) makes a row of
+// symbols of it; the later stages are decisions (carrier with detector, view), the same by the second stream
+// where it is enabled, and delivery (labels, counts), which writes what both answer where the caller says.
+// Rings, weights, channels and the view's points are planes that the caller lends; the soft records go by
+// value.
 ghost use mathlib.Core.Path.{_≡_};
 ghost use Prim.Native.Nat.{_≤_};
 ghost use Rattle.chain.specs.Chain.{freshPlace, deliveryOf, joinedPlace};
@@ -9,8 +10,9 @@ ghost use Rattle.chain.specs.Rows.{valuesOf, chainOf};
 ghost use Rattle.chain.specs.Lends.{given, leaves};
 ghost use Rattle.chain.specs.Ranges.{Asks};
 ghost use Rattle.chain.specs.RowLaws.{Left};
-use answer_row::BYTES;
-use answer_row::FLAGS;
+
+mod later;
+
 use answers::PARENTS;
 use answers::soft::Records;
 use carrier::CarrierPlace;
@@ -19,17 +21,18 @@ use channels::STATES;
 use clock::ClockPlace;
 use decisions::Decided;
 use decisions::DecisionsPlace;
-use decisions::decide;
 use delivery::Delivered;
 use delivery::DeliveryPlace;
-use delivery::deliver;
 use equalizer::WEIGHTS;
 use filter::RING;
+use later::LaterPlace;
+use later::later;
 use peak::KeeperPlace;
 use peak::VALUES;
 use recovery::ROW;
 use recovery::RecoveryPlace;
 use recovery::recover;
+use second::Second;
 use signal::POINTS;
 use signal::ViewPlace;
 
@@ -45,10 +48,11 @@ pub struct ChainPlace {
     pub locked: u64,
 }
 
-// The place, the soft records, and how many dibits are written.
+// The place, the soft records, the second stream, and how many dibits are written of each.
 pub struct Chained {
     pub place: ChainPlace,
     pub records: Records,
+    pub second: Second,
     pub written: usize,
 }
 
@@ -98,12 +102,15 @@ fn joined(r: RecoveryPlace, d: DecisionsPlace, t: DeliveryPlace) -> ChainPlace
 }
 
 // Takes the first `made` values of a row. Of the dibits, and in pairs of the reliabilities, `written`
-// stand there already; those that the values give are written after them, and the rest is untouched.
+// stand there already; those that the values give are written after them, and the rest is untouched. The
+// second stream's go into rooms of their own where both are asked for. Where it is not enabled its memory
+// is not looked at and may be empty.
 // A row without values, of which high rates make many, ends the call at once, and one without symbols
 // after recovery.
 pub fn chain(
     place: ChainPlace,
     records: Records,
+    second: Second,
     row_real: &[f32; ROW],
     row_imaginary: &[f32; ROW],
     made: usize,
@@ -119,27 +126,33 @@ pub fn chain(
     parents: &mut [u8; PARENTS],
     view_real: &mut [f32; POINTS],
     view_imaginary: &mut [f32; POINTS],
+    memory: &mut [f32],
+    ancestors: &mut [u8; PARENTS],
     dibits: &mut [u8],
     reliabilities: &mut [u8],
+    others: &mut [u8],
+    other_reliabilities: &mut [u8],
+    both: bool,
     written: usize,
 ) -> Chained
-    requires { ⌜ given (record { place = place; records = records; written = written })
+    requires { ⌜ given (record { place = place; records = records; second = second; written = written })
         «keeper_real» «keeper_imaginary» «clock_real» «clock_imaginary»
         «weight_real» «weight_imaginary» «channel_real» «channel_imaginary» costs parents
-        «view_real» «view_imaginary» dibits reliabilities
-        (Asks made) ⌝ }
+        «view_real» «view_imaginary» memory ancestors dibits reliabilities others «other_reliabilities»
+        (Asks both made) ⌝ }
     requires { ⌜ made ≤ 256 ⌝ }
-    ensures { λ r. ⌜ leaves (record { place = place; records = records; written = written }) r
+    ensures { λ r. ⌜ leaves (record { place = place; records = records; second = second; written = written }) r
         «keeper_real» «keeper_imaginary» «clock_real» «clock_imaginary»
         «weight_real» «weight_imaginary» «channel_real» «channel_imaginary» costs parents
-        «view_real» «view_imaginary» dibits reliabilities
-        (λ b a. (a ≡ chainOf (valuesOf (now («row_real» .entry)) (now («row_imaginary» .entry)) made) (b .state) (b .records) (b .room))
-        × Left made (b .state) (b .room) a) ⌝ }
+        «view_real» «view_imaginary» memory ancestors dibits reliabilities others «other_reliabilities»
+        (λ b a. (a ≡ chainOf (valuesOf (now («row_real» .entry)) (now («row_imaginary» .entry)) made) (b .state) (b .records) (b .room) (b .other))
+        × Left made (b .state) (b .room) (b .other) a) ⌝ }
 {
     if made == 0 {
         return Chained {
             place,
             records,
+            second,
             written,
         };
     }
@@ -167,24 +180,30 @@ pub fn chain(
     let recovered = r.place;
     let carrier = place.carrier;
     let view = place.view;
-    let second = DecisionsPlace { carrier, view };
-    let third = delivery_place(place);
+    let undecided = DecisionsPlace { carrier, view };
+    let undelivered = delivery_place(place);
     if r.count == 0 {
-        let quiet = joined(recovered, second, third);
+        let quiet = joined(recovered, undecided, undelivered);
         return Chained {
             place: quiet,
             records,
+            second,
             written,
         };
     }
-    let mut flags = [false; FLAGS];
-    let mut bytes = [0; BYTES];
-    let undecided = Decided {
-        place: second,
-        records,
+    let before = LaterPlace {
+        decided: Decided {
+            place: undecided,
+            records,
+        },
+        second,
+        delivered: Delivered {
+            place: undelivered,
+            written,
+        },
     };
-    let d = decide(
-        undecided,
+    let l = later(
+        before,
         &symbol_real,
         &symbol_imaginary,
         &reliable,
@@ -195,14 +214,17 @@ pub fn chain(
         parents,
         view_real,
         view_imaginary,
-        &mut flags,
-        &mut bytes,
+        memory,
+        ancestors,
+        dibits,
+        reliabilities,
+        others,
+        other_reliabilities,
+        both,
     );
-    let undelivered = Delivered {
-        place: third,
-        written,
-    };
-    let t = deliver(undelivered, &flags, &bytes, r.count, dibits, reliabilities);
+    let d = l.decided;
+    let t = l.delivered;
+    let second_after = l.second;
     let decided = d.place;
     let delivered = t.place;
     let after = joined(recovered, decided, delivered);
@@ -210,6 +232,7 @@ pub fn chain(
     Chained {
         place: after,
         records: records_after,
+        second: second_after,
         written: t.written,
     }
 }

@@ -10,9 +10,11 @@ use Rattle.peak.specs.Peak as Peak
 use Rattle.clock.specs.Clock as Clock
 use Rattle.carrier.specs.Carrier as Carrier
 use Rattle.signal.specs.Signal as Signal
+use Rattle.second.specs.Admitted as Second
 use Rattle.sequence.specs.Admitted.{areStates}
 use Rattle.chain.specs.declared.ChainPlace.{ChainPlace}
 use Rattle.front.specs.declared.FrontPlace.{FrontPlace}
+use Rattle.second.specs.declared.Second.{Second}
 use Rattle.checks.specs.Admitted.{totalsFit, chainFits, stateFits}
 
 pub totals-beyond : (total index symbols locked : ℕ) → 2 ^ 52 < total → false ≡ totalsFit total index symbols locked
@@ -28,8 +30,8 @@ pub chain-is : (p : ChainPlace) (a b c d : Bool) → a ≡ Peak.admittedOf (p .k
 unfolding chainFits
 chain-is p a b c d e f g h = rw (e, f, g, h)
 
-pub state-is : (total : ℕ) (front : FrontPlace) (chain : ChainPlace) (parents : List ℕ) (a b c d : Bool)
-    → a ≡ totalsFit total (front .resampler .index) (chain .symbols) (chain .locked) → b ≡ Front.admittedOf front → c ≡ chainFits chain → d ≡ areStates parents
-    → (a && (b && (c && d))) ≡ stateFits total front chain parents
+pub state-is : (total : ℕ) (front : FrontPlace) (chain : ChainPlace) (second : Second) (parents ancestors : List ℕ) (a b c d e : Bool)
+    → a ≡ totalsFit total (front .resampler .index) (chain .symbols) (chain .locked) → b ≡ Front.admittedOf front → c ≡ chainFits chain → d ≡ areStates parents → e ≡ Second.admittedOf second ancestors
+    → (a && (b && (c && (d && e)))) ≡ stateFits total front chain second parents ancestors
 unfolding stateFits
-state-is total front chain parents a b c d p q r s = rw (p, q, r, s)
+state-is total front chain second parents ancestors a b c d e p q r s t = rw (p, q, r, s, t)

@@ -11,6 +11,7 @@ use Rattle.resampler.specs.Admitted.{lowestRate, highestRate}
 use Rattle.resampler.specs.Dimensions.{sizedOf}
 use Rattle.chain.specs.declared.ChainPlace.{ChainPlace}
 use Rattle.front.specs.declared.FrontPlace.{FrontPlace}
+use Rattle.second.specs.declared.Second.{Second}
 use Rattle.samples.specs.Samples.{countOf, finiteOf, overloadOf}
 use Rattle.checks.specs.declared.refusal.Verdict.{Verdict}
 use Rattle.checks.specs.Refusal.{numberOf, Check, firstOf}
@@ -39,11 +40,14 @@ abbrev pub setupChecks : Float → Float → ℕ → List Check
 setupChecks rate offset room =
     record { number = 1; applies = rateRefused rate } ∷ record { number = 2; applies = offsetRefused rate offset } ∷ record { number = 3; applies = tableRefused rate room } ∷ []
 
--- ---- a reading
+-- ---- a reading, and an enabling of the second tracker
 
 -- what is looked at is whether the state may be run
 abbrev pub readingChecks : Bool → List Check
 readingChecks admitted = record { number = 7; applies = not admitted } ∷ []
+
+abbrev pub enablingChecks : Bool → List Check
+enablingChecks admitted = readingChecks admitted
 
 -- ---- a block
 
@@ -61,8 +65,9 @@ laterChecks total arm xs table dibits reliabilities =
     record { number = 3; applies = ltb table (32 * arm) } ∷ record { number = 4; applies = countRefused total (length xs) }
     ∷ record { number = 6; applies = roomRefused (countOf xs) dibits reliabilities } ∷ record { number = 5; applies = not (finiteOf xs) } ∷ []
 
-abbrev pub blockChecks : ℕ → FrontPlace → ChainPlace → List ℕ → List Float → ℕ → ℕ → ℕ → List Check
-blockChecks total front chain parents xs table dibits reliabilities = record { number = 7; applies = not (stateFits total front chain parents) } ∷ laterChecks total (front .resampler .arm) xs table dibits reliabilities
+abbrev pub blockChecks : ℕ → FrontPlace → ChainPlace → Second → List ℕ → List ℕ → List Float → ℕ → ℕ → ℕ → List Check
+blockChecks total front chain second parents ancestors xs table dibits reliabilities =
+    record { number = 7; applies = not (stateFits total front chain second parents ancestors) } ∷ laterChecks total (front .resampler .arm) xs table dibits reliabilities
 
 abbrev pub refusedBy : Verdict → Checked
 refusedBy v = record { verdict = v; overload = 0 }
@@ -82,5 +87,5 @@ unfoldable pub laterOf : ℕ → ℕ → List Float → ℕ → ℕ → ℕ → 
 laterOf total arm xs table dibits reliabilities = judgedBy (firstOf (laterChecks total arm xs table dibits reliabilities)) xs
 
 -- by what the checks look at of a state
-unfoldable pub statedOf : ℕ → FrontPlace → ChainPlace → List ℕ → List Float → ℕ → ℕ → ℕ → Judged
-statedOf total front chain parents xs table dibits reliabilities = judgedBy (firstOf (blockChecks total front chain parents xs table dibits reliabilities)) xs
+unfoldable pub statedOf : ℕ → FrontPlace → ChainPlace → Second → List ℕ → List ℕ → List Float → ℕ → ℕ → ℕ → Judged
+statedOf total front chain second parents ancestors xs table dibits reliabilities = judgedBy (firstOf (blockChecks total front chain second parents ancestors xs table dibits reliabilities)) xs

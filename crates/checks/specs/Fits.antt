@@ -18,11 +18,15 @@ use Rattle.carrier.specs.Ranges as CarrierRanges
 use Rattle.carrier.specs.AdmittedLaws as CarrierLaws
 use Rattle.signal.specs.Signal as Signal
 use Rattle.signal.specs.Laws as SignalLaws
+use Rattle.second.specs.Admitted as Second
+use Rattle.second.specs.Ranges as SecondRanges
+use Rattle.second.specs.AdmittedLaws as SecondLaws
 use Rattle.answers.specs.Walk.{Table}
 use Rattle.sequence.specs.Admitted.{areStates}
 use Rattle.sequence.specs.AdmittedLaws.{states-table, table-states}
 use Rattle.chain.specs.declared.ChainPlace.{ChainPlace}
 use Rattle.front.specs.declared.FrontPlace.{FrontPlace}
+use Rattle.second.specs.declared.Second.{Second}
 use Rattle.checks.specs.Admitted.{totalsFit, chainFits, stateFits}
 
 pub record ChainFits (c : ChainPlace) : Type 0 where
@@ -31,7 +35,7 @@ pub record ChainFits (c : ChainPlace) : Type 0 where
   pub carrier : CarrierRanges.PlaceRanged (c .carrier)
   pub view : Signal.Admitted (c .view)
 
-pub record Fits (total : ℕ) (front : FrontPlace) (chain : ChainPlace) (parents : List ℕ) : Type 0 where
+pub record Fits (total : ℕ) (front : FrontPlace) (chain : ChainPlace) (second : Second) (parents ancestors : List ℕ) : Type 0 where
   pub total-in : total ≤ 2 ^ 52
   pub index-in : front .resampler .index ≤ total
   pub locked-in : chain .locked ≤ chain .symbols
@@ -39,6 +43,7 @@ pub record Fits (total : ℕ) (front : FrontPlace) (chain : ChainPlace) (parents
   pub front-fits : Front.Admitted front
   pub chain-fits : ChainFits chain
   pub table : Table parents
+  pub second-fits : second .enabled ≡ true → SecondRanges.PlaceRanged second ancestors
 
 -- ---- from the test
 chain-from : (c : ChainPlace) → chainFits c ≡ true → ChainFits c
@@ -55,15 +60,18 @@ chain-from c h =
       view = SignalLaws.admitted-facts (c .view) (third .1);
     }
 
-pub fits-from : (total : ℕ) (front : FrontPlace) (chain : ChainPlace) (parents : List ℕ) → stateFits total front chain parents ≡ true → Fits total front chain parents
+pub fits-from : (total : ℕ) (front : FrontPlace) (chain : ChainPlace) (second : Second) (parents ancestors : List ℕ) → stateFits total front chain second parents ancestors ≡ true
+    → Fits total front chain second parents ancestors
 unfolding stateFits totalsFit
-fits-from total front chain parents h =
+fits-from total front chain second parents ancestors h =
     let i = front .resampler .index in
     let s = chain .symbols in
     let l = chain .locked in
-    let t = and-true (totalsFit total i s l) (Front.admittedOf front && (chainFits chain && areStates parents)) h in
-    let u = and-true (Front.admittedOf front) (chainFits chain && areStates parents) (t .1) in
-    let v = and-true (chainFits chain) (areStates parents) (u .1) in
+    let rest = areStates parents && Second.admittedOf second ancestors in
+    let t = and-true (totalsFit total i s l) (Front.admittedOf front && (chainFits chain && rest)) h in
+    let u = and-true (Front.admittedOf front) (chainFits chain && rest) (t .1) in
+    let v = and-true (chainFits chain) rest (u .1) in
+    let w = and-true (areStates parents) (Second.admittedOf second ancestors) (v .1) in
     let a = and-true (leb total (2 ^ 52)) (leb i total && (leb l s && leb s (2 * total))) (t .0) in
     let b = and-true (leb i total) (leb l s && leb s (2 * total)) (a .1) in
     let d = and-true (leb l s) (leb s (2 * total)) (b .1) in
@@ -74,7 +82,8 @@ fits-from total front chain parents h =
       symbols-in = leb-true s (2 * total) (d .1);
       front-fits = FrontLaws.admitted-facts front (u .0);
       chain-fits = chain-from chain (v .0);
-      table = states-table parents (v .1);
+      table = states-table parents (w .0);
+      second-fits = SecondLaws.admitted-ranged second ancestors (w .1);
     }
 
 -- ---- and to it
@@ -87,8 +96,9 @@ unfolding chainFits
 chain-to c k =
     rw (PeakLaws.facts-admitted (c .keeper) (k .keeper), ClockLaws.facts-admitted (c .clock) (k .clock), CarrierLaws.ranged-admitted (c .carrier) (k .carrier), SignalLaws.facts-admitted (c .view) (k .view))
 
-pub fits-to : (total : ℕ) (front : FrontPlace) (chain : ChainPlace) (parents : List ℕ) → Fits total front chain parents → stateFits total front chain parents ≡ true
+pub fits-to : (total : ℕ) (front : FrontPlace) (chain : ChainPlace) (second : Second) (parents ancestors : List ℕ) → Fits total front chain second parents ancestors
+    → stateFits total front chain second parents ancestors ≡ true
 unfolding stateFits
-fits-to total front chain parents k =
+fits-to total front chain second parents ancestors k =
     let totals = totals-to total (front .resampler .index) (chain .symbols) (chain .locked) (k .total-in) (k .index-in) (k .locked-in) (k .symbols-in) in
-    rw (totals, FrontLaws.facts-admitted front (k .front-fits), chain-to chain (k .chain-fits), table-states parents (k .table))
+    rw (totals, FrontLaws.facts-admitted front (k .front-fits), chain-to chain (k .chain-fits), table-states parents (k .table), SecondLaws.ranged-admitted second ancestors (k .second-fits))

@@ -18,6 +18,7 @@ use Rattle.resampler.specs.Admitted.{AdmittedRate, lowestRate, highestRate}
 use Rattle.checks.specs.declared.refusal.Verdict.the-variants.{Accepted, Table, Count, Sample, Room, State}
 use Rattle.chain.specs.declared.ChainPlace.{ChainPlace}
 use Rattle.front.specs.declared.FrontPlace.{FrontPlace}
+use Rattle.second.specs.declared.Second.{Second}
 use Rattle.samples.specs.declared.Level.{Level}
 use Rattle.checks.specs.declared.block.Checked.{Checked}
 use Rattle.samples.specs.Samples.{countOf, finiteOf, measuredOf}
@@ -111,17 +112,18 @@ module _ (total arm : ℕ) (xs : List Float) (table dibits reliabilities : ℕ) 
             go false h = rw (le-ltb table (32 * arm) roomy, ← ae, af, ← be, bf, h, e)
 
 -- ---- check 7
-module _ (total : ℕ) (front : FrontPlace) (chain : ChainPlace) (parents : List ℕ) (b : Bool) (be : b ≡ stateFits total front chain parents) where
+module _ (total : ℕ) (front : FrontPlace) (chain : ChainPlace) (second : Second) (parents ancestors : List ℕ) (b : Bool) (be : b ≡ stateFits total front chain second parents ancestors) where
   pub judged-ranges : b ≡ true → (total ≤ 2 ^ 52) × (front .resampler .arm ≤ 576)
   judged-ranges t =
-      let k = fits-from total front chain parents (sym be ∙ t) in
+      let k = fits-from total front chain second parents ancestors (sym be ∙ t) in
       (k .total-in, k .front-fits .resampler .arm-high)
 
   module _ (xs : List Float) (table dibits reliabilities : ℕ) (c : Checked) where
-    pub judged-state : b ≡ false → c ≡ refusedBy State → judgedNow c ≡ statedOf total front chain parents xs table dibits reliabilities
+    pub judged-state : b ≡ false → c ≡ refusedBy State → judgedNow c ≡ statedOf total front chain second parents ancestors xs table dibits reliabilities
     unfolding statedOf
     judged-state f e = rw (← be, f, e)
 
-    pub judged-later : b ≡ true → judgedNow c ≡ laterOf total (front .resampler .arm) xs table dibits reliabilities → judgedNow c ≡ statedOf total front chain parents xs table dibits reliabilities
+    pub judged-later : b ≡ true → judgedNow c ≡ laterOf total (front .resampler .arm) xs table dibits reliabilities
+        → judgedNow c ≡ statedOf total front chain second parents ancestors xs table dibits reliabilities
     unfolding statedOf laterOf
     judged-later t e = rw (← be, t) e

@@ -5,6 +5,7 @@ ghost use Rattle.checks.specs.Admitted.{totalsFit, chainFits, stateFits}
 use answers::PARENTS;
 use chain::ChainPlace;
 use front::FrontPlace;
+use second::Second;
 use sequence::admitted::are_states;
 
 // 2 to the power 52: so many samples are taken at most.
@@ -33,19 +34,23 @@ fn chain_fits(c: ChainPlace) -> bool
         & (clock::is_admitted(place) & (carrier::is_admitted(carrier) & signal::is_admitted(view)))
 }
 
-// Whether a state may be run, by what is looked at: its total, its places and its stored parents.
+// Whether a state may be run, by what is looked at: its total, its places and its stored parents, and where
+// the second tracker is enabled the same of it.
 pub fn is_admitted(
     total: u64,
     front: FrontPlace,
     chain: ChainPlace,
+    second: Second,
     parents: &[u8; PARENTS],
+    ancestors: &[u8; PARENTS],
 ) -> bool
-    ensures { λ b. ⌜ b ≡ stateFits total front chain (now (parents .entry)) ⌝ }
+    ensures { λ b. ⌜ b ≡ stateFits total front chain second (now (parents .entry)) (now (ancestors .entry)) ⌝ }
 {
     let r = front.resampler;
     let a = totals_fit(total, r.index, chain.symbols, chain.locked);
     let b = front::is_admitted(front);
     let c = chain_fits(chain);
     let d = are_states(parents);
-    a & (b & (c & d))
+    let e = second::is_admitted(second, ancestors);
+    a & (b & (c & (d & e)))
 }

@@ -9,6 +9,7 @@ use answers::PARENTS;
 use chain::ChainPlace;
 use front::FrontPlace;
 use samples::measured;
+use second::Second;
 
 // Overload: 0 where the block is refused.
 pub struct Checked {
@@ -80,15 +81,18 @@ pub fn judged(
     total: u64,
     front: FrontPlace,
     chain: ChainPlace,
+    second: Second,
     parents: &[u8; PARENTS],
+    ancestors: &[u8; PARENTS],
     samples: &[f32],
     table: usize,
     dibits: usize,
     reliabilities: usize,
 ) -> Checked
-    ensures { λ c. ⌜ judgedNow c ≡ statedOf total front chain (now (parents .entry)) (now (samples .entry)) table dibits reliabilities ⌝ }
+    ensures { λ c. ⌜ judgedNow c
+        ≡ statedOf total front chain second (now (parents .entry)) (now (ancestors .entry)) (now (samples .entry)) table dibits reliabilities ⌝ }
 {
-    if is_admitted(total, front, chain, parents) {
+    if is_admitted(total, front, chain, second, parents, ancestors) {
         let resampler = front.resampler;
         return checked_block(total, resampler.arm, samples, table, dibits, reliabilities);
     }

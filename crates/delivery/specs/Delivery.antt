@@ -1,7 +1,8 @@
 -- Delivery: what is delivered of an answer, and how it is laid into the room that the caller lends. Definitions only.
 use Prim.Native.Nat.{ℕ, _+_, _*_}
-use mathlib.Core.Bool.{Bool, true}
+use mathlib.Core.Bool.{Bool, true, cond}
 use mathlib.Core.List.{List, [], _∷_}
+use lib.IntN.{ℤ}
 use lib.ListN.{length}
 use lib.Seq.{sets}
 use Rattle.answers.specs.declared.walk.Answer.{Answer}
@@ -9,6 +10,10 @@ use Rattle.answers.specs.declared.walk.Answer.the-variants.{Silent, Dibit}
 use Rattle.labels.specs.Labels.{rearranges, labelledOf, countedOf}
 use Rattle.delivery.specs.declared.DeliveryPlace.{DeliveryPlace}
 use Rattle.delivery.specs.declared.step.Stepped.{Stepped}
+
+-- an answer is delivered only where the other stream has one too
+abbrev pub pairedOf : Answer → Bool → Answer
+pairedOf answer other = cond other answer Silent
 
 -- a dibit is a symbol delivered, and one under lock where the carrier is locked after it
 unfoldable pub toldOf : DeliveryPlace → Answer → Bool → Stepped
@@ -41,6 +46,10 @@ laidIn room ds rs = record {
   reliabilities = sets (room .reliabilities) (2 * room .written) rs;
   written = room .written + length ds;
 }
+
+-- an answer written as its profile labels it
+abbrev pub notedIn : ℤ → Room → Answer → Room
+notedIn profile room answer = let label = labelledOf (rearranges profile) answer in laidIn room (answerDibits label) (answerPair label)
 
 -- ---- one answer
 

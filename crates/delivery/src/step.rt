@@ -1,7 +1,7 @@
 // One answer: labelled, counted and written.
 ghost use mathlib.Core.Path.{_≡_};
 ghost use Prim.Native.Nat.{_<_, _≤_};
-ghost use Rattle.delivery.specs.Delivery.{toldOf, answerDibits, answerPair, laidIn, deliveredOf};
+ghost use Rattle.delivery.specs.Delivery.{pairedOf, toldOf, answerDibits, answerPair, laidIn, deliveredOf};
 ghost use Rattle.delivery.specs.Ranges.{mostSymbols, Roomy, Asks};
 ghost use Rattle.delivery.specs.Lends.{givenRoom, leavesRoom, given, leaves};
 use super::Delivered;
@@ -15,6 +15,16 @@ use labels::labelled;
 pub struct Stepped {
     pub place: DeliveryPlace,
     pub answer: Answer,
+}
+
+// An answer where the other stream has one too, and else silence.
+pub fn paired(answer: Answer, other: bool) -> Answer
+    ensures { λ r. ⌜ r ≡ pairedOf answer other ⌝ }
+{
+    if other {
+        return answer;
+    }
+    Answer::Silent
 }
 
 // A dibit is counted, under lock too where the carrier is locked after its symbol.

@@ -6,7 +6,7 @@ use lib.Ieee.{Float}
 use Rattle.chain.specs.declared.ChainPlace.{ChainPlace}
 use Rattle.receiver_state.specs.declared.state.Receiver.{Receiver}
 use Rattle.checks.specs.Refusal.{numberOf}
-use Rattle.receiver.specs.Block.{Outcome, blockOf}
+use Rattle.receiver.specs.Block.{Rooms, one, Outcome, blockOf}
 use Rattle.recording.specs.declared.text.Totals.{Totals}
 use Rattle.recording.specs.Decode.{floatsOf}
 use Rattle.recording.specs.Text.{Written, writtenOf, put, linesOf}
@@ -26,9 +26,13 @@ toldNow a text = record { number = numberOf (a .verdict); overload = a .overload
 abbrev pub toldBy : Outcome → List ℕ → Told
 toldBy o text = record { number = o .number; overload = o .overload; receiver = o .receiver; lines = put (linesOf (o .dibits) (o .reliabilities) (o .count)) (writtenOf 0 text) }
 
--- n samples of two floats each, and room for the dibits of 1,024
+-- room for the dibits of 1,024 samples
+abbrev pub lentRooms : Rooms
+lentRooms = one (replicate 2052 0) (replicate 4104 0)
+
+-- n samples of two floats each
 unfoldable pub toldOf : Receiver → List Float → List ℕ → ℕ → List ℕ → Told
-toldOf r table bytes n text = toldBy (blockOf r table (floatsOf (2 * n) bytes) (replicate 2052 0) (replicate 4104 0)) text
+toldOf r table bytes n text = toldBy (blockOf r table (floatsOf (2 * n) bytes) lentRooms) text
 
 -- dibits delivered, those under lock, whether it is locked now, and overloads
 abbrev pub totalsOf : ChainPlace → ℕ → Totals

@@ -2,11 +2,11 @@
 -- each there can be. Assumes nothing.
 use mathlib.Core.Path.{_≡_, refl, sym, ap, _∙_}
 use mathlib.Core.Bool.{Bool, true, false, cond}
-use mathlib.Core.List.{List, _++_}
+use mathlib.Core.List.{List, [], _++_}
 use Prim.Native.Nat.{ℕ, _+_, _*_, _/_, _≤_}
 use native.Mathlib.Omega.{arith}
 use lib.Dec.{eqb, ltb}
-use lib.ListN.{length, take, replicate, length-take}
+use lib.ListN.{length, take, length-take}
 use lib.Seq.{take-append-seam}
 use lib.Ieee.{Float, nan}
 use Rattle.laws.specs.Places.{length-upto}
@@ -20,10 +20,10 @@ use Rattle.samples.specs.Samples.{isAtEnd, overloadOf}
 use Rattle.samples.specs.Laws.{samples-most}
 use Rattle.checks.specs.Checks.{statedOf}
 use Rattle.receiver.specs.Admitted.{judgedOf}
-use Rattle.receiver.specs.Block.{Outcome, outcomeNow, acceptedOf, refusedOf, blockOf}
+use Rattle.receiver.specs.Block.{Rooms, dibitRoom, reliabilityRoom, Outcome, outcomeNow, acceptedOf, refusedOf, blockOf}
 use Rattle.recording.specs.Decode.{floatAt, floatsOf}
 use Rattle.recording.specs.Text.{Written, writtenOf, put, linesOf, closingOf}
-use Rattle.program.specs.Answer.{Told, toldNow, toldBy, toldOf, totalsOf}
+use Rattle.program.specs.Answer.{Told, toldNow, toldBy, lentRooms, toldOf, totalsOf}
 
 pub length-floats : (n : ℕ) (bytes : List ℕ) → length (floatsOf n bytes) ≡ n
 unfolding floatsOf
@@ -35,13 +35,13 @@ decoded-first n bytes xs rest e = ap (λ (l : List Float). take n l) e ∙ ap (�
 
 pub answered-is : (r : Receiver) (table : List Float) (bytes : List ℕ) (n : ℕ) (text : List ℕ) (xs rest : List Float) (b : Block) (ds rs : List ℕ) (end : ℕ) (after : List ℕ)
     → xs ≡ floatsOf (2 * n) bytes ++ rest
-    → outcomeNow b ds rs ≡ blockOf r table (take (2 * n) xs) (replicate 2052 0) (replicate 4104 0)
+    → outcomeNow b ds rs [] [] ≡ blockOf r table (take (2 * n) xs) lentRooms
     → writtenOf end after ≡ put (linesOf ds rs (b .count)) (writtenOf 0 text)
     → toldNow (record { verdict = b .verdict; overload = b .overload; receiver = b .receiver; end = end }) after ≡ toldOf r table bytes n text
 unfolding toldOf
 answered-is r table bytes n text xs rest b ds rs end after x o w =
     ap (λ (l : Written). record { number = numberOf (b .verdict); overload = b .overload; receiver = b .receiver; lines = l }) w
-    ∙ ap (λ (q : Outcome). toldBy q text) (o ∙ ap (λ (ys : List Float). blockOf r table ys (replicate 2052 0) (replicate 4104 0)) (decoded-first (2 * n) bytes xs rest x))
+    ∙ ap (λ (q : Outcome). toldBy q text) (o ∙ ap (λ (ys : List Float). blockOf r table ys lentRooms) (decoded-first (2 * n) bytes xs rest x))
 
 -- the snapshot's lock number is above 0 where the carrier is locked
 flag-above : (b : Bool) → ltb 0 (flagOf b) ≡ b
@@ -73,16 +73,16 @@ outcome-few : (b : Bool) (x y : Outcome) (m : ℕ) → x .overload ≤ m → y .
 outcome-few true x y m h k = h
 outcome-few false x y m h k = k
 
-block-few : (r : Receiver) (table xs : List Float) (ds rs : List ℕ) → blockOf r table xs ds rs .overload ≤ length xs / 2
+block-few : (r : Receiver) (table xs : List Float) (o : Rooms) → blockOf r table xs o .overload ≤ length xs / 2
 unfolding blockOf statedOf acceptedOf
-block-few r table xs ds rs =
-    let j = judgedOf r xs (length table) (length ds) (length rs) in
-    outcome-few (eqb (j .number) 0) (acceptedOf r table xs (j .overload) ds rs) (refusedOf (j .number) r ds rs) (length xs / 2) (judged-few (eqb (j .number) 0) xs) (omega arith)
+block-few r table xs o =
+    let j = judgedOf r xs (length table) (dibitRoom o) (reliabilityRoom o) in
+    outcome-few (eqb (j .number) 0) (acceptedOf r table xs (j .overload) o) (refusedOf (j .number) r o) (length xs / 2) (judged-few (eqb (j .number) 0) xs) (omega arith)
 
 pub told-few : (r : Receiver) (table : List Float) (bytes : List ℕ) (n : ℕ) (text : List ℕ) (t : Told) → t ≡ toldOf r table bytes n text → t .overload ≤ n
 unfolding toldOf
 told-few r table bytes n text t e =
-    let h = block-few r table (floatsOf (2 * n) bytes) (replicate 2052 0) (replicate 4104 0) in
+    let h = block-few r table (floatsOf (2 * n) bytes) lentRooms in
     let k = length-floats (2 * n) bytes in
-    let q : t .overload ≡ blockOf r table (floatsOf (2 * n) bytes) (replicate 2052 0) (replicate 4104 0) .overload = ap (λ (u : Told). u .overload) e in
+    let q : t .overload ≡ blockOf r table (floatsOf (2 * n) bytes) lentRooms .overload = ap (λ (u : Told). u .overload) e in
     omega arith

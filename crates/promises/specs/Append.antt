@@ -14,14 +14,15 @@ use Rattle.taps.specs.Taps.{bothTables}
 use Rattle.answers.specs.declared.soft.Slot.{Slot}
 use Rattle.front.specs.Front as front
 use Rattle.oscillator.specs.Oscillator.{conjugatedOf}
-use Rattle.chain.specs.Chain.{ChainState}
-use Rattle.chain.specs.Rows.{dibitsOf, pairOf, recordsAfter, Told, start, slotAt, nextOf, told, ranOf, chainOf}
-use Rattle.chain.specs.RowLaws.{ran-profile, ran-append}
+use Rattle.chain.specs.Chain.{ChainState, Outcome as Result}
+use Rattle.chain.specs.Rows.{dibitsOf, pairOf, othersOf, otherPairOf, recordsAfter, Told, start, slotAt, nextOf, told, ranOf, chainOf}
+use Rattle.chain.specs.RowLaws.{ran-profile, ran-append, withSecond}
 use Rattle.receiver_state.specs.declared.state.Receiver.{Receiver}
 use Rattle.samples.specs.Samples.{countOf, realOf, imaginaryOf, finiteOf, tallied, samplesWith, isAtEnd, overloadOf}
 use Rattle.run.specs.Run.{wholeRunOf}
-use Rattle.receiver.specs.Block.{startOf, receiverOf}
-use Rattle.promises.specs.Deliveries.{Delivery, deliveryOf, deliveries, deliveriesOf, afterOf}
+use Rattle.receiver.specs.Block.{one, startOf, receiverOf}
+use Rattle.promises.specs.SecondKept.{SplitsBack}
+use Rattle.promises.specs.Deliveries.{Delivery, deliveryOf, otherDeliveryOf, deliveredBy, valuesOf, deliveriesOf, otherDeliveriesOf, afterOf}
 
 -- ---- samples
 module _ (xs ys : List Float) (even : length xs ≡ 2 * countOf xs) where
@@ -90,7 +91,7 @@ module _ (xs ys : List Float) (even : length xs ≡ 2 * countOf xs) where
 
 -- ---- the front
 module _ (conjugated : Bool) (table : List Float) where
-  abbrev frontFrom : List Float → front.Rung → List Complex32 → front.Run
+  abbrev pub frontFrom : List Float → front.Rung → List Complex32 → front.Run
   frontFrom xs g vs = front.frontOf conjugated table xs (countOf xs) (record { rung = g; values = vs })
 
   -- values from before stay in front
@@ -115,45 +116,57 @@ module _ (conjugated : Bool) (table : List Float) where
 -- ---- the chain
 module _ (taps derivatives : List Float) where
   -- what was told before changes neither state nor records
+  abbrev telling : ChainState → List Slot → List ℕ → List ℕ → List ℕ → List ℕ → Told
+  telling s records ds rs es qs = record { state = s; records = records; dibits = ds; reliabilities = rs; others = es; otherReliabilities = qs }
+
   ran-alike : (values : List Complex32) (s : ChainState) (records : List Slot) (ds rs es qs : List ℕ)
-      → (ranOf taps derivatives values (record { state = s; records = records; dibits = ds; reliabilities = rs }) .state ≡ ranOf taps derivatives values (record { state = s; records = records; dibits = es; reliabilities = qs }) .state)
-      × (ranOf taps derivatives values (record { state = s; records = records; dibits = ds; reliabilities = rs }) .records ≡ ranOf taps derivatives values (record { state = s; records = records; dibits = es; reliabilities = qs }) .records)
+      → (ranOf taps derivatives values (telling s records ds rs es qs) .state ≡ ranOf taps derivatives values (start s records) .state)
+      × (ranOf taps derivatives values (telling s records ds rs es qs) .records ≡ ranOf taps derivatives values (start s records) .records)
   unfolding ranOf told
   ran-alike [] s records ds rs es qs = (refl, refl)
   ran-alike (z ∷ values) s records ds rs es qs =
       let n = nextOf taps derivatives s records z in
-      ran-alike values (n .state) (recordsAfter (n .outcome) (slotAt s) records) (ds ++ dibitsOf (n .outcome)) (rs ++ pairOf (n .outcome)) (es ++ dibitsOf (n .outcome)) (qs ++ pairOf (n .outcome))
+      let o = n .outcome in
+      let after = recordsAfter o (slotAt s) records in
+      let a = ran-alike values (n .state) after (ds ++ dibitsOf o) (rs ++ pairOf o) (es ++ othersOf o) (qs ++ otherPairOf o) in
+      let b = ran-alike values (n .state) after (dibitsOf o) (pairOf o) (othersOf o) (otherPairOf o) in
+      (a .0 ∙ sym (b .0), a .1 ∙ sym (b .1))
 
-  deliveries-append : (xs ys : List Complex32) (t : Told)
-      → deliveries taps derivatives (xs ++ ys) (t .state) (t .records) ≡ deliveries taps derivatives xs (t .state) (t .records) ++ deliveries taps derivatives ys (ranOf taps derivatives xs t .state) (ranOf taps derivatives xs t .records)
-  unfolding deliveries ranOf told
-  deliveries-append [] ys t = refl
-  deliveries-append (z ∷ xs) ys t =
+  pub deliveries-append : (pick : Result → List Delivery) (xs ys : List Complex32) (t : Told)
+      → deliveredBy pick taps derivatives (xs ++ ys) (t .state) (t .records)
+      ≡ deliveredBy pick taps derivatives xs (t .state) (t .records) ++ deliveredBy pick taps derivatives ys (ranOf taps derivatives xs t .state) (ranOf taps derivatives xs t .records)
+  unfolding deliveredBy ranOf told
+  deliveries-append pick [] ys t = refl
+  deliveries-append pick (z ∷ xs) ys t =
       let n = nextOf taps derivatives (t .state) (t .records) z in
-      ap (λ (l : List Delivery). deliveryOf (n .outcome) ++ l) (deliveries-append xs ys (told taps derivatives t z)) ∙ sym (append-assoc (deliveryOf (n .outcome)) _ _)
+      ap (λ (l : List Delivery). pick (n .outcome) ++ l) (deliveries-append pick xs ys (told taps derivatives t z)) ∙ sym (append-assoc (pick (n .outcome)) _ _)
 
 -- ---- the block
 abbrev made : ℕ → front.Rung → ChainState → List Slot → Receiver
-made total g s records = receiverOf total (record { rung = g; lent = record { state = s; records = records; room = record { dibits = []; reliabilities = []; written = 0 } }; from = 0 })
+made total g s records = receiverOf total (record {
+  rung = g;
+  lent = record { state = s; records = records; room = record { dibits = []; reliabilities = []; written = 0 }; other = record { dibits = []; reliabilities = []; written = 0 } };
+  from = 0;
+})
 
 module _ (r : Receiver) (table xs ys : List Float) where
-  abbrev conjugated : Bool
+  abbrev pub conjugated : Bool
   conjugated = conjugatedOf (r .chain .profile)
 
-  abbrev ran : List Complex32 → Told → Told
+  abbrev pub ran : List Complex32 → Told → Told
   ran = ranOf (bothTables .taps) (bothTables .derivatives)
 
   -- the front and the chain after the first samples, and after the second
-  abbrev started : Told
-  started = start (startOf r [] [] .lent .state) (r .records .slots)
+  abbrev pub started : Told
+  started = start (startOf r (one [] []) .lent .state) (r .records .slots)
 
-  abbrev frontFirst : front.Run
-  frontFirst = frontFrom conjugated table xs (startOf r [] [] .rung) []
+  abbrev pub frontFirst : front.Run
+  frontFirst = frontFrom conjugated table xs (startOf r (one [] []) .rung) []
 
   abbrev frontSecond : front.Run
   frontSecond = frontFrom conjugated table ys (frontFirst .rung) []
 
-  abbrev toldFirst : Told
+  abbrev pub toldFirst : Told
   toldFirst = ran (frontFirst .values) started
 
   abbrev toldSecond : Told
@@ -163,33 +176,65 @@ module _ (r : Receiver) (table xs ys : List Float) where
   unfolding afterOf wholeRunOf chainOf
   same-profile = ap conjugatedOf (ran-profile (bothTables .taps) (bothTables .derivatives) (frontFirst .values) started)
 
-  after-second : afterOf (afterOf r table xs) table ys ≡ made (r .total + countOf xs + countOf ys) (frontSecond .rung) (toldSecond .state) (toldSecond .records)
-  unfolding afterOf wholeRunOf chainOf
-  after-second = ap (λ (b : Bool). receiverOf (r .total + countOf xs + countOf ys) (wholeRunOf b table ys (startOf (afterOf r table xs) [] []))) same-profile
+  -- the chain as the state returned has it: its second stream was put together into one array and is taken apart again
+  abbrev restarted : ChainState
+  restarted = startOf (afterOf r table xs) (one [] []) .lent .state
 
-  deliveries-second : deliveriesOf (afterOf r table xs) table ys ≡ deliveries (bothTables .taps) (bothTables .derivatives) (frontSecond .values) (toldFirst .state) (toldFirst .records)
-  unfolding deliveriesOf afterOf wholeRunOf chainOf
-  deliveries-second = ap (λ (b : Bool). deliveries (bothTables .taps) (bothTables .derivatives) (frontFrom b table ys (frontFirst .rung) [] .values) (toldFirst .state) (toldFirst .records)) same-profile
+  module _ (back : SplitsBack (toldFirst .state .second)) where
+    restarted-is : restarted ≡ toldFirst .state
+    unfolding afterOf wholeRunOf chainOf
+    restarted-is =
+        let s = toldFirst .state in
+        let m = back .memory in
+        let c = back .costs in
+        λ i. withSecond (record { enabled = s .second .enabled; carrier = s .second .carrier; records = s .second .records; memory = m i; costs = c i; parents = s .second .parents }) s
 
-  module _ (even : length xs ≡ 2 * countOf xs) where
+    after-second : afterOf (afterOf r table xs) table ys ≡ made (r .total + countOf xs + countOf ys) (frontSecond .rung) (toldSecond .state) (toldSecond .records)
+    unfolding afterOf wholeRunOf chainOf
+    after-second =
+        let total = r .total + countOf xs + countOf ys in
+        let begun : ChainState → Told = λ s. start s (toldFirst .records) in
+        ap (λ (b : Bool). let f = frontFrom b table ys (frontFirst .rung) [] in made total (f .rung) (ran (f .values) (begun restarted) .state) (ran (f .values) (begun restarted) .records)) same-profile
+        ∙ ap (λ (s : ChainState). made total (frontSecond .rung) (ran (frontSecond .values) (begun s) .state) (ran (frontSecond .values) (begun s) .records)) restarted-is
+
+  module _ (pick : Result → List Delivery) where
+    -- what a stream delivers of the first samples, and then of the second
+    abbrev pickedOf : Receiver → List Float → List Delivery
+    pickedOf q zs = deliveredBy pick (bothTables .taps) (bothTables .derivatives) (valuesOf q table zs) (startOf q (one [] []) .lent .state) (q .records .slots)
+
+    picked-second : SplitsBack (toldFirst .state .second)
+        → pickedOf (afterOf r table xs) ys ≡ deliveredBy pick (bothTables .taps) (bothTables .derivatives) (frontSecond .values) (toldFirst .state) (toldFirst .records)
+    unfolding afterOf wholeRunOf chainOf
+    picked-second back =
+        ap (λ (b : Bool). deliveredBy pick (bothTables .taps) (bothTables .derivatives) (frontFrom b table ys (frontFirst .rung) [] .values) restarted (toldFirst .records)) same-profile
+        ∙ ap (λ (s : ChainState). deliveredBy pick (bothTables .taps) (bothTables .derivatives) (frontSecond .values) s (toldFirst .records)) (restarted-is back)
+
+    picked-append : length xs ≡ 2 * countOf xs → SplitsBack (toldFirst .state .second) → pickedOf r (xs ++ ys) ≡ pickedOf r xs ++ pickedOf (afterOf r table xs) ys
+    picked-append even back =
+        let f = front-append conjugated table xs ys even (startOf r (one [] []) .rung) in
+        (λ i. deliveredBy pick (bothTables .taps) (bothTables .derivatives) (f i .values) (started .state) (started .records))
+        ∙ deliveries-append (bothTables .taps) (bothTables .derivatives) pick (frontFirst .values) (frontSecond .values) started
+        ∙ ap (λ (l : List Delivery). pickedOf r xs ++ l) (sym (picked-second back))
+
+  module _ (even : length xs ≡ 2 * countOf xs) (back : SplitsBack (toldFirst .state .second)) where
     -- the state after a block of both is that after one and then the other
     pub after-append : afterOf r table (xs ++ ys) ≡ afterOf (afterOf r table xs) table ys
     unfolding afterOf wholeRunOf chainOf
     after-append =
         let n : r .total + countOf (xs ++ ys) ≡ r .total + countOf xs + countOf ys = (let e = count-append xs ys even in omega arith) in
-        let f = front-append conjugated table xs ys even (startOf r [] [] .rung) in
+        let f = front-append conjugated table xs ys even (startOf r (one [] []) .rung) in
         let t = ran-append (bothTables .taps) (bothTables .derivatives) (frontFirst .values) (frontSecond .values) started in
-        let l = ran-alike (bothTables .taps) (bothTables .derivatives) (frontSecond .values) (toldFirst .state) (toldFirst .records) (toldFirst .dibits) (toldFirst .reliabilities) [] [] in
+        let l = ran-alike (bothTables .taps) (bothTables .derivatives) (frontSecond .values) (toldFirst .state) (toldFirst .records) (toldFirst .dibits) (toldFirst .reliabilities) (toldFirst .others) (toldFirst .otherReliabilities) in
         (λ i. made (n i) (f i .rung) (ran (f i .values) started .state) (ran (f i .values) started .records))
         ∙ (λ i. made (r .total + countOf xs + countOf ys) (frontSecond .rung) (t i .state) (t i .records))
         ∙ (λ i. made (r .total + countOf xs + countOf ys) (frontSecond .rung) (l .0 i) (l .1 i))
-        ∙ sym after-second
+        ∙ sym (after-second back)
 
-    -- what a block of both delivers is what one delivers and then the other
+    -- what a block of both delivers is what one delivers and then the other, of each stream
     pub delivered-append : deliveriesOf r table (xs ++ ys) ≡ deliveriesOf r table xs ++ deliveriesOf (afterOf r table xs) table ys
     unfolding deliveriesOf
-    delivered-append =
-        let f = front-append conjugated table xs ys even (startOf r [] [] .rung) in
-        (λ i. deliveries (bothTables .taps) (bothTables .derivatives) (f i .values) (started .state) (started .records))
-        ∙ deliveries-append (bothTables .taps) (bothTables .derivatives) (frontFirst .values) (frontSecond .values) started
-        ∙ ap (λ (l : List Delivery). deliveriesOf r table xs ++ l) (sym deliveries-second)
+    delivered-append = picked-append deliveryOf even back
+
+    pub others-append : otherDeliveriesOf r table (xs ++ ys) ≡ otherDeliveriesOf r table xs ++ otherDeliveriesOf (afterOf r table xs) table ys
+    unfolding otherDeliveriesOf
+    others-append = picked-append otherDeliveryOf even back

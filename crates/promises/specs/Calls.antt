@@ -11,7 +11,7 @@ use Rattle.answers.specs.declared.soft.Slot.{Slot}
 use Rattle.chain.specs.Chain.{ChainState, Step}
 use Rattle.chain.specs.Rows.{recordsAfter, slotAt, nextOf}
 use Rattle.receiver_state.specs.declared.state.Receiver.{Receiver}
-use Rattle.receiver.specs.Block.{startOf}
+use Rattle.receiver.specs.Block.{one, startOf}
 use Rattle.promises.specs.Deliveries.{Delivery, deliveryOf, valuesOf}
 use Rattle.promises.specs.Compose.{deliveredDibits}
 use Rattle.promises.specs.Taken.{Call, answeredOf}
@@ -50,7 +50,7 @@ lockedDeliveries taps derivatives (z ∷ values) s records =
 
 -- of an accepted block
 unfoldable pub lockedDeliveriesOf : Receiver → List Float → List Float → List Delivery
-lockedDeliveriesOf r table xs = lockedDeliveries (bothTables .taps) (bothTables .derivatives) (valuesOf r table xs) (startOf r [] [] .lent .state) (r .records .slots)
+lockedDeliveriesOf r table xs = lockedDeliveries (bothTables .taps) (bothTables .derivatives) (valuesOf r table xs) (startOf r (one [] []) .lent .state) (r .records .slots)
 
 -- of calls: those of the accepted ones
 unfoldable pub lockedOver : Receiver → List Call → List Delivery

@@ -22,16 +22,19 @@ use Rattle.recovery.specs.declared.step.Found.{Found}
 use Rattle.recovery.specs.declared.step.Found.the-variants.{Nothing, Here}
 use Rattle.recovery.specs.Recovery as recovery
 use Rattle.decisions.specs.Decisions as decisions
+use Rattle.answer_row.specs.AnswerRow.{isDibit}
+use Rattle.second.specs.Second.{otherOf}
 use Rattle.delivery.specs.Delivery as delivery
+use Rattle.delivery.specs.Delivery.{pairedOf}
 use Rattle.chain.specs.Chain as chain
-use Rattle.chain.specs.Chain.{ChainState, recoveryOf, decisionsOf, Quiet, Heard, Step, heardOf, steppedOf}
+use Rattle.chain.specs.Chain.{ChainState, recoveryOf, decisionsOf, Quiet, Step, heardOf, steppedOf}
 use Rattle.chain.specs.Rows.{recordsAfter, Told, start, slotAt, nextOf, told, ranOf, chainOf}
 use Rattle.receiver_state.specs.declared.state.Receiver.{Receiver}
 use Rattle.receiver_state.specs.State.{freshReceiver, snapshotOf}
 use Rattle.run.specs.Run.{wholeRunOf}
 use Rattle.receiver.specs.Setup.{setupOf}
-use Rattle.receiver.specs.Block.{startOf, Outcome, refusedOf, blockOf}
-use Rattle.promises.specs.Deliveries.{deliveryOf, deliveries, valuesOf, deliveriesOf, afterOf, outcomeOf, length-dibits, accepted-is}
+use Rattle.receiver.specs.Block.{Rooms, one, startOf, Outcome, refusedOf, blockOf}
+use Rattle.promises.specs.Deliveries.{answerDelivery, deliveryOf, deliveredBy, deliveries, valuesOf, deliveriesOf, afterOf, outcomeOf, length-dibits, accepted-is}
 use Rattle.promises.specs.Compose.{deliveredDibits, dibits-are}
 use Rattle.promises.specs.Written.{refused-is}
 use Rattle.promises.specs.Tables.{setup-fresh}
@@ -46,16 +49,16 @@ record Counting (s : ChainState) (n : Step) : Type 0 where
   symbols : n .state .place .symbols ≡ s .place .symbols + length (deliveryOf (n .outcome))
   locked : n .state .place .locked ≡ s .place .locked + length (lockedDelivery n)
 
-answer-counts : (n : ℕ) (a : Answer) (counts rearranged : Bool) (soft : Soft) → countedOf n a counts ≡ n + length (cond counts (deliveryOf (Heard soft (labelledOf rearranged a))) [])
-answer-counts n Silent true rearranged soft = omega arith
-answer-counts n Silent false rearranged soft = omega arith
-answer-counts n (Dibit d h l) true true soft = refl
-answer-counts n (Dibit d h l) true false soft = refl
-answer-counts n (Dibit d h l) false rearranged soft = omega arith
+answer-counts : (n : ℕ) (a : Answer) (counts rearranged : Bool) → countedOf n a counts ≡ n + length (cond counts (answerDelivery (labelledOf rearranged a)) [])
+answer-counts n Silent true rearranged = omega arith
+answer-counts n Silent false rearranged = omega arith
+answer-counts n (Dibit d h l) true true = refl
+answer-counts n (Dibit d h l) true false = refl
+answer-counts n (Dibit d h l) false rearranged = omega arith
 
-heard-counts : (f : Found) (s : ChainState) (r : recovery.RecoveryState) (oldest : Soft) → Counting s (heardOf f r (decisionsOf s) (chain.deliveryOf (s .place)) oldest)
+heard-counts : (f : Found) (s : ChainState) (r : recovery.RecoveryState) (oldest : Soft) → Counting s (heardOf f r (decisionsOf s) (s .second) (chain.deliveryOf (s .place)) oldest)
 unfolding heardOf decisions.decidedOf delivery.toldOf
-heard-counts Nothing s r oldest = record { symbols = omega arith; locked = none (isLocked (heardOf Nothing r (decisionsOf s) (chain.deliveryOf (s .place)) oldest)) (s .place .locked) }
+heard-counts Nothing s r oldest = record { symbols = omega arith; locked = none (isLocked (heardOf Nothing r (decisionsOf s) (s .second) (chain.deliveryOf (s .place)) oldest)) (s .place .locked) }
   where
     none : (b : Bool) (n : ℕ) → n ≡ n + length (cond b (deliveryOf Quiet) [])
     none true n = omega arith
@@ -63,9 +66,10 @@ heard-counts Nothing s r oldest = record { symbols = omega arith; locked = none 
 heard-counts (Here z reliable) s r oldest =
     let c = lms_carrier.carriedOf (s .place .carrier) z reliable oldest (s .channels) (s .costs) (s .parents) .carried in
     let rearranged = rearranges (s .place .profile) in
+    let told = pairedOf (c .answer) (isDibit (otherOf (s .second) (c .answer) z reliable .answer)) in
     record {
-      symbols = answer-counts (s .place .symbols) (c .answer) true rearranged (c .soft);
-      locked = answer-counts (s .place .locked) (c .answer) (c .place .turn .locked) rearranged (c .soft);
+      symbols = answer-counts (s .place .symbols) told true rearranged;
+      locked = answer-counts (s .place .locked) told (c .place .turn .locked) rearranged;
     }
 
 -- ---- values: the chain over them
@@ -79,7 +83,7 @@ module _ (taps derivatives : List Float) where
     locked : ranOf taps derivatives values t .state .place .locked ≡ t .state .place .locked + length (lockedDeliveries taps derivatives values (t .state) (t .records))
 
   grown : (values : List Complex32) (t : Told) → Grown values t
-  unfolding ranOf told deliveries lockedDeliveries
+  unfolding ranOf told deliveredBy lockedDeliveries
   grown [] t = record { symbols = omega arith; locked = omega arith }
   grown (z ∷ values) t =
       let n = nextOf taps derivatives (t .state) (t .records) z in
@@ -100,13 +104,13 @@ pub record Counted (r : Receiver) (table xs : List Float) (o : Outcome) : Type 0
   pub shown-symbols : o .snapshot .symbols ≡ o .receiver .chain .symbols
   pub shown-locked : o .snapshot .«locked_symbols» ≡ o .receiver .chain .locked
 
-module _ (r : Receiver) (table xs : List Float) (ds rs : List ℕ) where
-  outcome-counts : Counted r table xs (outcomeOf r table xs ds rs)
+module _ (r : Receiver) (table xs : List Float) (lent : Rooms) where
+  outcome-counts : Counted r table xs (outcomeOf r table xs lent)
   unfolding afterOf wholeRunOf chainOf deliveriesOf lockedDeliveriesOf snapshotOf
   outcome-counts =
-      let g = grown (bothTables .taps) (bothTables .derivatives) (valuesOf r table xs) (start (startOf r [] [] .lent .state) (r .records .slots)) in
+      let g = grown (bothTables .taps) (bothTables .derivatives) (valuesOf r table xs) (start (startOf r (one [] []) .lent .state) (r .records .slots)) in
       record {
-        delivered = ap length (dibits-are r table xs ds rs) ∙ length-dibits (deliveriesOf r table xs);
+        delivered = ap length (dibits-are r table xs lent) ∙ length-dibits (deliveriesOf r table xs);
         symbols = g .symbols;
         locked = g .locked;
         shown-symbols = refl;
@@ -114,8 +118,8 @@ module _ (r : Receiver) (table xs : List Float) (ds rs : List ℕ) where
       }
 
   -- AN ACCEPTED BLOCK
-  pub block-counts : blockOf r table xs ds rs .number ≡ 0 → Counted r table xs (blockOf r table xs ds rs)
-  block-counts h = subst (Counted r table xs) (sym (accepted-is r table xs ds rs h)) outcome-counts
+  pub block-counts : blockOf r table xs lent .number ≡ 0 → Counted r table xs (blockOf r table xs lent)
+  block-counts h = subst (Counted r table xs) (sym (accepted-is r table xs lent h)) outcome-counts
 
 -- ---- calls one after the other
 
@@ -130,19 +134,19 @@ record NothingAdded (r : Receiver) (o : Outcome) : Type 0 where
   symbols : o .receiver .chain .symbols ≡ r .chain .symbols + o .count
   locked : o .receiver .chain .locked ≡ r .chain .locked + 0
 
-refused-adds : (number : ℕ) (r : Receiver) (ds rs : List ℕ) → NothingAdded r (refusedOf number r ds rs)
-refused-adds number r ds rs = record { delivered = refl; symbols = omega arith; locked = omega arith }
+refused-adds : (number : ℕ) (r : Receiver) (lent : Rooms) → NothingAdded r (refusedOf number r lent)
+refused-adds number r lent = record { delivered = refl; symbols = omega arith; locked = omega arith }
 
 added : (r : Receiver) (c : Call) → Added r c
 added r c = go (eqb (answeredOf r c .number) 0) refl
   where
     go : (b : Bool) → eqb (answeredOf r c .number) 0 ≡ b → Added r c
     go true e =
-        let k = block-counts r (c .table) (c .samples) (c .dibits) (c .reliabilities) (eqb-true (answeredOf r c .number) 0 e) in
+        let k = block-counts r (c .table) (c .samples) (c .rooms) (eqb-true (answeredOf r c .number) 0 e) in
         record { delivered = k .delivered; symbols = k .symbols; locked = rw e (k .locked) }
     go false e =
-        let is = refused-is r (c .table) (c .samples) (c .dibits) (c .reliabilities) (eqb-false (answeredOf r c .number) 0 e) in
-        let k = subst (NothingAdded r) (sym is) (refused-adds (answeredOf r c .number) r (c .dibits) (c .reliabilities)) in
+        let is = refused-is r (c .table) (c .samples) (c .rooms) (eqb-false (answeredOf r c .number) 0 e) in
+        let k = subst (NothingAdded r) (sym is) (refused-adds (answeredOf r c .number) r (c .rooms)) in
         record { delivered = k .delivered; symbols = k .symbols; locked = rw e (k .locked) }
 
 -- FROM ANY STATE both count on from its values, whatever is called and refused
@@ -207,7 +211,7 @@ module _ (rate offset : Float) (profile : ℤ) (table : List Float) where
 
     pub shown-since-setup : (cs : List Call) (c : Call) → answeredOf (stateAfter fresh cs) c .number ≡ 0 → ShownSinceSetup (cs ++ (c ∷ [])) (answeredOf (stateAfter fresh cs) c)
     shown-since-setup cs c h =
-        let k = block-counts (stateAfter fresh cs) (c .table) (c .samples) (c .dibits) (c .reliabilities) h in
+        let k = block-counts (stateAfter fresh cs) (c .table) (c .samples) (c .rooms) h in
         let n = counts-since-setup (cs ++ (c ∷ [])) in
         let e = sym (state-one-call-on fresh cs c) in
         record {

@@ -50,7 +50,7 @@ use Rattle.receiver.specs.Admitted.{admittedOf}
 use Rattle.checks.specs.Fits.{fits-from}
 use Rattle.samples.specs.Samples.{countOf}
 use Rattle.run.specs.Run.{frontAt, wholeRunOf}
-use Rattle.receiver.specs.Block.{startOf, acceptedOf, blockOf}
+use Rattle.receiver.specs.Block.{one, dibitRoom, reliabilityRoom, startOf, acceptedOf, blockOf}
 use Rattle.promises.specs.Tables.{setup-fresh}
 use Rattle.promises.specs.Small.{Small, small-counts}
 use Rattle.promises.specs.Taken.{Call, answeredOf, takenWhere, takenOf, rungBefore, givenAt, givenOf, mixedRow}
@@ -125,14 +125,14 @@ module _ (conjugated : Bool) (table xs : List Float) (h : front.Run) where
       ∙ ap (outputsOf s) (sym (mixed-more k))
 
 -- ---- a chain keeps its profile
-chain-profile : (values : List Complex32) (t : chain.ChainState) (records : List Slot) (room : rows.Room) → rows.chainOf values t records room .state .place .profile ≡ t .place .profile
+chain-profile : (values : List Complex32) (t : chain.ChainState) (records : List Slot) (room other : rows.Room) → rows.chainOf values t records room other .state .place .profile ≡ t .place .profile
 unfolding rows.chainOf
-chain-profile values t records room = ran-profile (bothTables .taps) (bothTables .derivatives) values (rows.start t records)
+chain-profile values t records room other = ran-profile (bothTables .taps) (bothTables .derivatives) values (rows.start t records)
 
 -- ---- a call is accepted and moves the front over its samples, or refused and leaves the state as it was
 pub record Accepted (r : Receiver) (c : Call) : Type 0 where
   pub accepted : eqb (answeredOf r c .number) 0 ≡ true
-  pub moved : startOf (answeredOf r c .receiver) [] [] .rung ≡ rungBefore r c (countOf (c .samples))
+  pub moved : startOf (answeredOf r c .receiver) (one [] []) .rung ≡ rungBefore r c (countOf (c .samples))
   pub profile : answeredOf r c .receiver .chain .profile ≡ r .chain .profile
 
 pub record Refused (r : Receiver) (c : Call) : Type 0 where
@@ -144,10 +144,10 @@ unfolding blockOf acceptedOf wholeRunOf
 answered r c = go (eqb (judged .number) 0) refl
   where
     judged : Judged
-    judged = judgedOf r (c .samples) (length (c .table)) (length (c .dibits)) (length (c .reliabilities))
+    judged = judgedOf r (c .samples) (length (c .table)) (dibitRoom (c .rooms)) (reliabilityRoom (c .rooms))
 
     go : (b : Bool) → eqb (judged .number) 0 ≡ b → Accepted r c ⊎ Refused r c
-    go true e = inl (record { accepted = rw e; moved = rw e; profile = rw e (chain-profile _ _ _ _) })
+    go true e = inl (record { accepted = rw e; moved = rw e; profile = rw e (chain-profile _ _ _ _ _) })
     go false e = inr (record { refused = rw e (e); receiver = rw e })
 
 -- the state after an accepted one answers from where the front came to
@@ -158,7 +158,7 @@ moved-on : (r : Receiver) (c : Call) → Accepted r c → (zs : List Complex32)
 moved-on r c t zs =
     let b = conjugatedOf (r .chain .profile) in
     let k = countOf (c .samples) in
-    let h : front.Run = record { rung = startOf r (c .dibits) (c .reliabilities) .rung; values = [] } in
+    let h : front.Run = record { rung = startOf r (c .rooms) .rung; values = [] } in
     (λ i. outputsOf (t .moved i .place .decimator) (mixedRow (conjugatedOf (t .profile i)) (t .moved i .place .oscillator) zs))
     ∙ (λ i. outputsOf (decimator-at b (c .table) (c .samples) h k i) (mixedRow b (oscillator-at b (c .table) (c .samples) h k i) zs))
 
@@ -174,7 +174,7 @@ given-is r (c ∷ cs) = elim (answered r c) [
       let t₀ = r .front .decimator in
       let rest = takenOf after cs in
       let k = countOf (c .samples) in
-      let h : front.Run = record { rung = startOf r (c .dibits) (c .reliabilities) .rung; values = [] } in
+      let h : front.Run = record { rung = startOf r (c .rooms) .rung; values = [] } in
       ap (λ (y : Bool). cond y (upto (givenAt r c) k) [] ++ givenOf after cs) (t .accepted)
       ∙ (λ i. given-row b (c .table) (c .samples) h k i ++ given-is after cs i)
       ∙ ap (λ (l : List Output). outputsOf t₀ (mixedRow b q (upto (front.sampleAt (c .samples)) k)) ++ l) (moved-on r c t rest)
@@ -195,8 +195,8 @@ unfolding front.frontOf turns front.more front.frontStep
 hears r c k = refl
 
 pub makes : (r : Receiver) (c : Call) (k : ℕ)
-    → frontAt (conjugatedOf (r .chain .profile)) (c .table) (c .samples) (startOf r (c .dibits) (c .reliabilities)) (suc k) .values
-    ≡ frontAt (conjugatedOf (r .chain .profile)) (c .table) (c .samples) (startOf r (c .dibits) (c .reliabilities)) k .values ++ resampleValues (c .table) (front.ringOf (rungBefore r c k)) (givenAt r c k)
+    → frontAt (conjugatedOf (r .chain .profile)) (c .table) (c .samples) (startOf r (c .rooms)) (suc k) .values
+    ≡ frontAt (conjugatedOf (r .chain .profile)) (c .table) (c .samples) (startOf r (c .rooms)) k .values ++ resampleValues (c .table) (front.ringOf (rungBefore r c k)) (givenAt r c k)
 unfolding front.frontOf turns front.more front.frontStep
 makes r c k = refl
 
@@ -317,7 +317,7 @@ unfolding outputOf
 recovers-within r h D R I cs n l m =
     let t = r .front .decimator in
     let zs = mixedRow (conjugatedOf (r .chain .profile)) (r .front .oscillator) (takenOf r cs) in
-    let early : t .counter < t .decimation = fits-from (r .total) (r .front) (r .chain) (r .parents) h .front-fits .decimator .counter-in in
+    let early : t .counter < t .decimation = fits-from (r .total) (r .front) (r .chain) (r .second) (r .parents) (r .ancestors) h .front-fits .decimator .counter-in in
     let a = length-map zs countsOf in
     let b = mixed-length (conjugatedOf (r .chain .profile)) (r .front .oscillator) (takenOf r cs) in
     ap (λ (os : List Output). getD os n Nothing) (given-is r cs)

@@ -28,7 +28,7 @@ use Rattle.front.specs.Front as front
 use Rattle.receiver_state.specs.declared.state.Receiver.{Receiver}
 use Rattle.receiver_state.specs.State.{freshReceiver}
 use Rattle.samples.specs.Samples.{countOf}
-use Rattle.receiver.specs.Block.{startOf}
+use Rattle.receiver.specs.Block.{one, startOf}
 use Rattle.receiver.specs.Setup.{setupOf}
 use Rattle.promises.specs.Tables.{setup-fresh}
 use Rattle.promises.specs.Taken.{Call, answeredOf}
@@ -110,14 +110,14 @@ front-sound conjugated table xs zero h k = k
 front-sound conjugated table xs (suc n) h k = step-sound conjugated table (front.frontOf conjugated table xs n h .rung) (front.sampleAt xs n) (front-sound conjugated table xs n h k)
 
 -- ---- and after any call: every state that a block returns is typed where the state given is
-typed-from : (r : Receiver) → Sound (startOf r [] [] .rung) → FrontTyped r
+typed-from : (r : Receiver) → Sound (startOf r (one [] []) .rung) → FrontTyped r
 typed-from r k = record { real-words = k .real-words; imaginary-words = k .imaginary-words; ring-real = k .ring-real; ring-imaginary = k .ring-imaginary }
 
 pub block-front-typed : (r : Receiver) (c : Call) → FrontTyped r → FrontTyped (answeredOf r c .receiver)
 block-front-typed r c k = elim (answered r c) [
   | inl t ↦
       typed-from (answeredOf r c .receiver) (subst Sound (sym (t .moved))
-      (front-sound (conjugatedOf (r .chain .profile)) (c .table) (c .samples) (countOf (c .samples)) (record { rung = startOf r [] [] .rung; values = [] })
+      (front-sound (conjugatedOf (r .chain .profile)) (c .table) (c .samples) (countOf (c .samples)) (record { rung = startOf r (one [] []) .rung; values = [] })
       (record { real-words = k .real-words; imaginary-words = k .imaginary-words; ring-real = k .ring-real; ring-imaginary = k .ring-imaginary })))
   | inr t ↦ subst FrontTyped (sym (t .receiver)) k
 ]

@@ -1,5 +1,6 @@
 pub mod Deliveries
 pub mod Written
+pub mod SecondKept
 pub mod Append
 pub mod Accepts
 pub mod Compose
@@ -10,6 +11,8 @@ pub mod Small
 pub mod Decimates
 pub mod Calls
 pub mod Counts
+pub mod Streams
+pub mod Enabling
 pub mod CostsKept
 pub mod Unique
 pub mod Recut

@@ -36,7 +36,7 @@ use Rattle.front.specs.Admitted.{Admitted as FrontAdmitted}
 use Rattle.checks.specs.Fits.{fits-from}
 use Rattle.samples.specs.Samples.{countOf}
 use Rattle.run.specs.Run.{frontAt}
-use Rattle.receiver.specs.Block.{startOf}
+use Rattle.receiver.specs.Block.{one, startOf}
 use Rattle.promises.specs.Deliveries.{valuesOf}
 use Rattle.promises.specs.Accepts.{accepted-passes}
 use Rattle.promises.specs.Taken.{Call, answeredOf, takenWhere, takenOf, rungBefore, givenAt, givenOf, mixedRow}
@@ -59,7 +59,7 @@ hears-by-any table other h (Value v) =
 
 -- the ring of a state, and after the first n of a row of outputs
 abbrev pub ringIn : Receiver → ResamplerState
-ringIn r = front.ringOf (startOf r [] [] .rung)
+ringIn r = front.ringOf (startOf r (one [] []) .rung)
 
 abbrev pub ringAfter : ResamplerState → List Output → ℕ → ResamplerState
 ringAfter h os n = turns (λ (i : ℕ) (g : ResamplerState). resampleState [] g (getD os i Nothing)) n h
@@ -88,7 +88,7 @@ ring-call r c k (suc n) l =
     ∙ sym (hears r c n)
 
 -- what a call hands to its chain are the values made of its samples, in their order
-made-so-far : (r : Receiver) (c : Call) (n : ℕ) → frontAt (conjugatedOf (r .chain .profile)) (c .table) (c .samples) (startOf r (c .dibits) (c .reliabilities)) n .values ≡ flatten (upto (madeAt r c) n)
+made-so-far : (r : Receiver) (c : Call) (n : ℕ) → frontAt (conjugatedOf (r .chain .profile)) (c .table) (c .samples) (startOf r (c .rooms)) n .values ≡ flatten (upto (madeAt r c) n)
 unfolding upto
 made-so-far r c zero = unfold front.frontOf turns flatten in refl
 made-so-far r c (suc n) = makes r c n ∙ ap (λ (l : List Complex32). l ++ madeAt r c n) (made-so-far r c n) ∙ sym (flatten-more (upto (madeAt r c) n) (madeAt r c n))
@@ -160,7 +160,7 @@ pub taken-admitted : (r : Receiver) (cs : List Call) → 0 < length (takenOf r c
 unfolding takenOf
 taken-admitted r [] l = absurd (omega arith)
 taken-admitted r (c ∷ cs) l = elim (answered r c) [
-  | inl t ↦ accepted-passes r (c .table) (c .samples) (c .dibits) (c .reliabilities) (eqb-true _ 0 (t .accepted)) .admitted
+  | inl t ↦ accepted-passes r (c .table) (c .samples) (c .rooms) (eqb-true _ 0 (t .accepted)) .admitted
   | inr t ↦ taken-admitted r cs (subst (λ (u : Receiver). 0 < length (takenOf u cs)) (t .receiver) (subst (λ (y : Bool). 0 < length (takenWhere y c ++ takenOf (answeredOf r c .receiver) cs)) (t .refused) l))
 ]
 
@@ -337,7 +337,7 @@ module _ (r q : Receiver) (cs es : List Call) (n lead : ℕ) (l : n < length (ta
   since = r .front .decimator .counter
 
   pub fits : FrontAdmitted (r .front)
-  fits = fits-from (r .total) (r .front) (r .chain) (r .parents) (taken-admitted r cs (omega arith)) .front-fits
+  fits = fits-from (r .total) (r .front) (r .chain) (r .second) (r .parents) (r .ancestors) (taken-admitted r cs (omega arith)) .front-fits
 
   -- what they make of sample n is the same where the outputs of the latest c are
   pub made-alike : ((k : ℕ) → k ≤ c → k * d ≤ lead * d + since → Like k (ringIn r) (ringIn q)) → (c - 1) * d ≤ lead * d + since + n

@@ -32,7 +32,7 @@ pub record Takes (r : Receiver) (table xs : List Float) : Type 0 where
 
 -- the total after an accepted part
 total-on : (r : Receiver) (table : List Float) (c : Part) → called r table c .number ≡ 0 → called r table c .receiver .total ≡ r .total + countOf (c .samples)
-total-on r table c h = ap (λ (o : Outcome). o .receiver .total) (accepted-is r table (c .samples) (c .dibits) (c .reliabilities) h) ∙ total-after r table (c .samples)
+total-on r table c h = ap (λ (o : Outcome). o .receiver .total) (accepted-is r table (c .samples) (c .rooms) h) ∙ total-after r table (c .samples)
 
 -- PARTS ARE ACCEPTED: from such a state, all parts of whole samples, at most 65,536 of them, with rooms that suffice
 pub parts-accepted : (r : Receiver) (table : List Float) (parts : List Part) → Typed r → Takes r table (samplesIn parts) → AllRoomy parts → AllFew parts → AllAccepted r table parts
@@ -45,7 +45,7 @@ parts-accepted r table (c ∷ parts) t k room few =
     let a = k .total-in in
     let b = k .table-in in
     let d = few .0 in
-    let accepted = passes-accepted r table (c .samples) (c .dibits) (c .reliabilities) (record {
+    let accepted = passes-accepted r table (c .samples) (c .rooms) (record {
       admitted = k .admitted;
       table-in = b;
       few = omega arith;
@@ -54,7 +54,7 @@ parts-accepted r table (c ∷ parts) t k room few =
       room = room .0 .1;
       finite = f .0;
     }) in
-    let kept = block-kept r table (c .samples) (c .dibits) (c .reliabilities) t accepted in
+    let kept = block-kept r table (c .samples) (c .rooms) t accepted in
     let arm = kept .arm in
     let m = total-on r table c accepted in
     (accepted, parts-accepted (called r table c .receiver) table parts (kept .typed) (record { admitted = kept .admitted; table-in = omega arith; total-in = omega arith; finite = f .1 }) (room .1) (few .1))
@@ -63,13 +63,13 @@ parts-accepted r table (c ∷ parts) t k room few =
 all-finite : (r : Receiver) (table : List Float) (parts : List Part) → AllAccepted r table parts → finiteOf (samplesIn parts) ≡ true
 all-finite r table [] h = unfold finiteOf turns in refl
 all-finite r table (c ∷ parts) h =
-    let p = accepted-passes r table (c .samples) (c .dibits) (c .reliabilities) (h .0) in
+    let p = accepted-passes r table (c .samples) (c .rooms) (h .0) in
     finite-append (c .samples) (samplesIn parts) (p .even) ∙ (λ i. p .finite i && all-finite (called r table c .receiver) table parts (h .1) i)
 
 all-within : (r : Receiver) (table : List Float) (parts : List Part) → r .total ≤ 2 ^ 52 → AllAccepted r table parts → r .total + countOf (samplesIn parts) ≤ 2 ^ 52
 all-within r table [] l h = omega arith
 all-within r table (c ∷ parts) l h =
-    let p = accepted-passes r table (c .samples) (c .dibits) (c .reliabilities) (h .0) in
+    let p = accepted-passes r table (c .samples) (c .rooms) (h .0) in
     let n = count-append (c .samples) (samplesIn parts) (p .even) in
     let m = total-on r table c (h .0) in
     let a = p .total-in in
@@ -79,7 +79,7 @@ all-within r table (c ∷ parts) l h =
 accepted-takes : (r : Receiver) (table : List Float) (parts : List Part) → 0 < length parts → AllAccepted r table parts → Takes r table (samplesIn parts)
 accepted-takes r table [] l h = absurd (omega arith)
 accepted-takes r table (c ∷ parts) l h =
-    let p = accepted-passes r table (c .samples) (c .dibits) (c .reliabilities) (h .0) in
+    let p = accepted-passes r table (c .samples) (c .rooms) (h .0) in
     let a = p .total-in in
     record { admitted = p .admitted; table-in = p .table-in; total-in = all-within r table (c ∷ parts) (omega arith) h; finite = all-finite r table (c ∷ parts) h }
 
@@ -91,4 +91,4 @@ module _ (r : Receiver) (table : List Float) (parts others : List Part) (typed :
 
   -- CUT ANEW, THE SAME: and it gives the same dibits and reliabilities, the same k and overload in all, and the same state at the end
   pub recut-same : sessionOf r table parts ≡ sessionOf r table others
-  recut-same = any-cutting r table parts others accepted recut-accepted same
+  recut-same = any-cutting r table parts others typed accepted recut-accepted same

@@ -13,17 +13,16 @@ use Rattle.front.specs.Front as front
 use Rattle.receiver_state.specs.declared.state.Receiver.{Receiver}
 use Rattle.samples.specs.Samples.{countOf}
 use Rattle.run.specs.Run.{frontAt}
-use Rattle.receiver.specs.Block.{Outcome, startOf, blockOf}
+use Rattle.receiver.specs.Block.{Rooms, Outcome, startOf, blockOf}
 
 -- what a block is called with
 pub record Call : Type 0 where
   pub table : List Float
   pub samples : List Float
-  pub dibits : List ℕ
-  pub reliabilities : List ℕ
+  pub rooms : Rooms
 
 abbrev pub answeredOf : Receiver → Call → Outcome
-answeredOf r c = blockOf r (c .table) (c .samples) (c .dibits) (c .reliabilities)
+answeredOf r c = blockOf r (c .table) (c .samples) (c .rooms)
 
 -- the samples that a call takes: all of them where it is accepted, and none where it is refused
 abbrev pub takenWhere : Bool → Call → List Complex32
@@ -36,7 +35,7 @@ takenOf r (c ∷ cs) = takenWhere (eqb (answeredOf r c .number) 0) c ++ takenOf 
 
 -- the front before sample k of a call, and what its decimator gives the resampler for that sample
 abbrev pub rungBefore : Receiver → Call → ℕ → front.Rung
-rungBefore r c k = frontAt (conjugatedOf (r .chain .profile)) (c .table) (c .samples) (startOf r (c .dibits) (c .reliabilities)) k .rung
+rungBefore r c k = frontAt (conjugatedOf (r .chain .profile)) (c .table) (c .samples) (startOf r (c .rooms)) k .rung
 
 abbrev pub givenAt : Receiver → Call → ℕ → Output
 givenAt r c k = front.stepOf (conjugatedOf (r .chain .profile)) (rungBefore r c k .place .oscillator) (rungBefore r c k .place .decimator) (front.sampleAt (c .samples) k) .output

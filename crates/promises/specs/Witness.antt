@@ -23,6 +23,7 @@ use Rattle.samples.specs.Samples.{countOf, realOf, imaginaryOf, finiteOf}
 use Rattle.receiver.specs.Setup.{setupOf}
 use Rattle.receiver.specs.Laws.{setup-admitted}
 use Rattle.promises.specs.Accepts.{setup-typed}
+use Rattle.receiver.specs.Block.{one}
 use Rattle.promises.specs.Cutting.{Part, AllAccepted, samplesIn, AllRoomy}
 use Rattle.promises.specs.Tables.{setup-fresh, setup-writes}
 use Rattle.promises.specs.Taken.{Call, answeredOf, takenOf, givenOf}
@@ -79,7 +80,7 @@ taps = setupOf rate zero64 (pos 0) lent .table
 
 -- n zero samples, with rooms that just suffice
 abbrev pub silence : ℕ → Call
-silence n = record { table = taps; samples = zeroes (2 * n); dibits = replicate (2 * n + 4) 0; reliabilities = replicate (4 * n + 8) 0 }
+silence n = record { table = taps; samples = zeroes (2 * n); rooms = one (replicate (2 * n + 4) 0) (replicate (4 * n + 8) 0) }
 
 zero-finite : isFinite zero32 ≡ true
 unfolding isFinite ofBits
@@ -99,7 +100,7 @@ finite-zeroes n = all-true (λ (k : ℕ). isFinite (realOf (zeroes (2 * n)) k) &
 -- A BLOCK OF ZEROS IS ACCEPTED, up to 65,536 samples
 pub silence-accepted : (n : ℕ) → n ≤ 65536 → answeredOf receiver (silence n) .number ≡ 0
 silence-accepted n h =
-    let part : Part = record { samples = zeroes (2 * n); dibits = replicate (2 * n + 4) 0; reliabilities = replicate (4 * n + 8) 0 } in
+    let part : Part = record { samples = zeroes (2 * n); rooms = one (replicate (2 * n + 4) 0) (replicate (4 * n + 8) 0) } in
     let c = count-zeroes n in
     let l = length-replicate (2 * n) zero32 in
     let a = length-replicate {A = ℕ} (2 * n + 4) 0 in

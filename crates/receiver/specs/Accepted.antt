@@ -15,6 +15,7 @@ use Rattle.numbers.specs.Numbers.{isFinite}
 use Rattle.front.specs.Admitted as fit
 use Rattle.chain.specs.declared.ChainPlace.{ChainPlace}
 use Rattle.front.specs.declared.FrontPlace.{FrontPlace}
+use Rattle.second.specs.declared.Second.{Second}
 use Rattle.receiver_state.specs.declared.state.Receiver.{Receiver}
 use Rattle.checks.specs.Refusal.{numberOf}
 use Rattle.samples.specs.Samples.{countOf, realOf, imaginaryOf, finiteOf}
@@ -27,7 +28,7 @@ use Rattle.checks.specs.Checks.{countRefused, roomRefused, Judged, judgedNow, s
 use Rattle.checks.specs.Ways.{counted}
 
 pub record ReadyBlock (r : Receiver) (table xs : List Float) (dibits reliabilities : ℕ) : Type 0 where
-  pub fits : Fits (r .total) (r .front) (r .chain) (r .parents)
+  pub fits : Fits (r .total) (r .front) (r .chain) (r .second) (r .parents) (r .ancestors)
   pub table-in : 32 * r .front .resampler .arm ≤ length table
   pub total-in : r .total + countOf xs ≤ 2 ^ 52
   pub numbers : fit.Numbers xs
@@ -69,7 +70,7 @@ ready-block r table xs dibits reliabilities h =
     let q = counted (r .total) (length xs) (countRefused (r .total) (length xs)) refl (z .2) in
     let p = or-false (ltb dibits (2 * countOf xs + 4)) (ltb reliabilities (4 * countOf xs + 8)) (z .3) in
     record {
-      fits = fits-from (r .total) (r .front) (r .chain) (r .parents) (not-false (admittedOf r) (z .0));
+      fits = fits-from (r .total) (r .front) (r .chain) (r .second) (r .parents) (r .ancestors) (not-false (admittedOf r) (z .0));
       table-in = ltb-false (length table) (32 * r .front .resampler .arm) (z .1);
       total-in = q .total-in;
       numbers = numbers-of xs (q .even) (not-false (finiteOf xs) (z .4));
@@ -83,10 +84,10 @@ take-asks r table xs dibits reliabilities c b je be t =
     ready-block r table xs dibits reliabilities (sym (ap (λ (j : Judged). j .number) je) ∙ eqb-true (numberOf (c .verdict)) 0 (sym be ∙ t))
 
 -- an accepted block's samples leave the total within 2^52
-pub take-total : (total : ℕ) (front : FrontPlace) (chain : ChainPlace) (parents : List ℕ) (xs : List Float) (table dibits reliabilities : ℕ) (c : Checked) (b : Bool)
-    → judgedNow c ≡ statedOf total front chain parents xs table dibits reliabilities → b ≡ eqb (numberOf (c .verdict)) 0 → b ≡ true → total + countOf xs ≤ 2 ^ 52
+pub take-total : (total : ℕ) (front : FrontPlace) (chain : ChainPlace) (second : Second) (parents ancestors : List ℕ) (xs : List Float) (table dibits reliabilities : ℕ) (c : Checked) (b : Bool)
+    → judgedNow c ≡ statedOf total front chain second parents ancestors xs table dibits reliabilities → b ≡ eqb (numberOf (c .verdict)) 0 → b ≡ true → total + countOf xs ≤ 2 ^ 52
 unfolding statedOf
-take-total total front chain parents xs table dibits reliabilities c b je be t =
+take-total total front chain second parents ancestors xs table dibits reliabilities c b je be t =
     let number = sym (ap (λ (j : Judged). j .number) je) ∙ eqb-true (numberOf (c .verdict)) 0 (sym be ∙ t) in
-    let z = first-none (not (stateFits total front chain parents)) (ltb table (32 * front .resampler .arm)) (countRefused total (length xs)) (roomRefused (countOf xs) dibits reliabilities) (not (finiteOf xs)) number in
+    let z = first-none (not (stateFits total front chain second parents ancestors)) (ltb table (32 * front .resampler .arm)) (countRefused total (length xs)) (roomRefused (countOf xs) dibits reliabilities) (not (finiteOf xs)) number in
     counted total (length xs) (countRefused total (length xs)) refl (z .2) .total-in

@@ -8,7 +8,7 @@ use Rattle.checks.specs.Admitted.{stateFits}
 use Rattle.checks.specs.Checks.{Judged, statedOf}
 
 abbrev pub admittedOf : Receiver → Bool
-admittedOf r = stateFits (r .total) (r .front) (r .chain) (r .parents)
+admittedOf r = stateFits (r .total) (r .front) (r .chain) (r .second) (r .parents) (r .ancestors)
 
 abbrev pub judgedOf : Receiver → List Float → ℕ → ℕ → ℕ → Judged
-judgedOf r xs table dibits reliabilities = statedOf (r .total) (r .front) (r .chain) (r .parents) xs table dibits reliabilities
+judgedOf r xs table dibits reliabilities = statedOf (r .total) (r .front) (r .chain) (r .second) (r .parents) (r .ancestors) xs table dibits reliabilities

@@ -1,6 +1,6 @@
 -- The state of zeros is not admitted, a fresh one is, and so is the one that an accepted setup leaves. Assumes nothing.
 use mathlib.Core.Path.{_≡_, refl, sym, subst}
-use mathlib.Core.Bool.{Bool, true, false}
+use mathlib.Core.Bool.{Bool, true, false, false≢true}
 use mathlib.Core.List.{List}
 use Prim.Native.Nat.{ℕ, _<_}
 use native.Mathlib.Omega.{arith}
@@ -16,7 +16,7 @@ use Rattle.decimator.specs.Decimator as decimator
 use Rattle.peak.specs.Laws as PeakLaws
 use Rattle.clock.specs.Laws.{fresh-admitted}
 use Rattle.signal.specs.Laws as SignalLaws
-use Rattle.receiver_state.specs.State.{zeroReceiver, zeroFront, zeroChain, freshFront, freshReceiver}
+use Rattle.receiver_state.specs.State.{zeroReceiver, zeroFront, zeroChain, zeroSecond, freshFront, freshReceiver}
 use Rattle.checks.specs.Admitted.{stateFits, totalsFit}
 use Rattle.checks.specs.Fits.{fits-to}
 use Rattle.checks.specs.Checks.{rateRefused, offsetRefused, tableRefused}
@@ -31,11 +31,11 @@ zero-refused = refl
 
 -- and an accepted one
 pub fresh-fits : (rate offset : Float) (profile : ℤ) (d : Dimensions) → Sized d → admittedOf (freshReceiver (freshFront rate offset d) profile) ≡ true
-unfolding freshReceiver decimator.freshOf resampler.freshOf
+unfolding freshReceiver zeroSecond decimator.freshOf resampler.freshOf
 fresh-fits rate offset profile d k =
     let r = freshReceiver (freshFront rate offset d) profile in
     let a = k .decimation-low in
-    fits-to (r .total) (r .front) (r .chain) (r .parents) (record {
+    fits-to (r .total) (r .front) (r .chain) (r .second) (r .parents) (r .ancestors) (record {
       total-in = omega arith;
       index-in = omega arith;
       locked-in = omega arith;
@@ -52,6 +52,7 @@ fresh-fits rate offset profile d k =
         view = SignalLaws.fresh-admitted;
       };
       table = record { below = λ i l. subst (λ (n : ℕ). n < 64) (sym (getD-replicate 2048 i 0 0 l)) (let z : 0 < 64 = omega arith in z) };
+      second-fits = λ on. absurd (false≢true on);
     })
 
 pub setup-admitted : (rate offset : Float) (profile : ℤ) (table : List Float) → setupOf rate offset profile table .number ≡ 0 → admittedOf (setupOf rate offset profile table .receiver) ≡ true

@@ -1,8 +1,10 @@
 pub mod Admitted
 pub mod Setup
 pub mod Reading
+pub mod Enable
 pub mod Ways
 pub mod Accepted
+pub mod Absent
 pub mod Block
 pub mod BlockLaws
 pub mod Laws

@@ -1,18 +1,21 @@
--- Setup and reading, by their ways out: what the code gives there is what the definition says. Assumes nothing.
+-- Setup, reading and enabling, by their ways out: what the code gives there is what the definition says. Assumes nothing.
 use mathlib.Core.Path.{_≡_, sym, _∙_}
 use mathlib.Core.Bool.{Bool, true, false}
 use mathlib.Core.List.{List}
 use Prim.Native.Nat.{_*_, _≤_, _<_}
 use lib.IntN.{ℤ}
-use lib.ListN.{length}
+use lib.ListN.{length, replicate}
 use lib.Ieee.{Float, binary64, ofBits}
 use borrow.Author.Tests.{lt-ltb, le-ltb}
+use Rattle.laws.specs.Branches.{cond-yes, cond-no}
 use Rattle.signal.specs.declared.Reading.{Reading as Shown}
 use Rattle.signal.specs.Signal.{Read, viewOf, readOf}
 use Rattle.resampler.specs.declared.dimensions.Dimensions.{Dimensions}
 use Rattle.resampler.specs.Dimensions.{sizedOf}
 use Rattle.resampler.specs.Design.{writtenOf}
 use Rattle.front.specs.declared.FrontPlace.{FrontPlace}
+use Rattle.second.specs.declared.Second.{Second}
+use Rattle.second.specs.Second.{freshSecond, freshFloats}
 use Rattle.checks.specs.declared.refusal.Verdict.the-variants.{Accepted, Rate, Offset, Table, State}
 use Rattle.receiver_state.specs.declared.state.Receiver.{Receiver}
 use Rattle.receiver.specs.declared.setup.Setup.{Setup}
@@ -22,6 +25,7 @@ use Rattle.checks.specs.Fits.{fits-from}
 use Rattle.checks.specs.Checks.{rateRefused, offsetRefused}
 use Rattle.receiver.specs.Setup.{setupNow, refusedReceiver, setupOf}
 use Rattle.receiver.specs.Reading.{pointsNow, readingOf}
+use Rattle.receiver.specs.Enable.{enabledNow, withSecond, startedOf, enabledOf, enableOf}
 
 -- ---- setup
 module _ (rate offset : Float) (profile : ℤ) (table : List Float) where
@@ -49,7 +53,7 @@ module _ (rate offset : Float) (profile : ℤ) (table : List Float) where
 -- an admitted state's view can be read
 pub view-ranges : (r : Receiver) (b : Bool) → b ≡ admittedOf r → b ≡ true → (r .chain .view .head < 1024) × (r .chain .view .count ≤ 1024)
 view-ranges r b e t =
-    let k = fits-from (r .total) (r .front) (r .chain) (r .parents) (sym e ∙ t) in
+    let k = fits-from (r .total) (r .front) (r .chain) (r .second) (r .parents) (r .ancestors) (sym e ∙ t) in
     (k .chain-fits .view .head, k .chain-fits .view .count)
 
 pub reading-accepted : (r : Receiver) (output after : List Float) (p : Shown) (b : Bool) → b ≡ admittedOf r → b ≡ true
@@ -61,3 +65,24 @@ reading-accepted r output after p b e t h = rw (← e, t, ← h)
 pub reading-refused : (r : Receiver) (output : List Float) (b : Bool) → b ≡ admittedOf r → b ≡ false → pointsNow (record { verdict = State; count = 0; error = ofBits binary64 0 }) output ≡ readingOf r output
 unfolding readingOf
 reading-refused r output b e f = rw (← e, f)
+
+-- ---- enabling
+module _ (r : Receiver) (b : Bool) (e : b ≡ admittedOf r) where
+  accepted : (s : Receiver) → b ≡ true → s ≡ enabledOf r → enabledNow (record { verdict = Accepted; receiver = s }) ≡ enableOf r
+  unfolding enableOf
+  accepted s t h = rw (← e, t, h)
+
+  pub enable-again : b ≡ true → r .second .enabled ≡ true → enabledNow (record { verdict = Accepted; receiver = r }) ≡ enableOf r
+  unfolding enabledOf
+  enable-again t h = accepted r t (cond-yes (r .second .enabled) r (startedOf r) h)
+
+  pub enable-started : (s : Second) (memory : List Float) → b ≡ true → r .second .enabled ≡ false → s ≡ freshSecond → memory ≡ freshFloats
+      → enabledNow (record { verdict = Accepted; receiver = withSecond r s memory (replicate 2048 0) }) ≡ enableOf r
+  unfolding enabledOf startedOf
+  enable-started s memory t h p q =
+      let started = withSecond r s memory (replicate 2048 0) in
+      accepted started t (cond-no (r .second .enabled) r (startedOf r) started h (rw (p, q)))
+
+  pub enable-refused : b ≡ false → enabledNow (record { verdict = State; receiver = r }) ≡ enableOf r
+  unfolding enableOf
+  enable-refused f = rw (← e, f)

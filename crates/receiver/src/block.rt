@@ -1,11 +1,14 @@
-// A block of samples through the receiver.
+// A block of samples through the receiver: for one stream, or for both.
 ghost use mathlib.Core.Path.{_≡_};
+ghost use mathlib.Core.Bool.{true};
+ghost use mathlib.Core.List.{[]};
 ghost use Prim.Native.Nat.{_≤_};
 ghost use lib.ListN.{length};
-ghost use Rattle.receiver.specs.Block.{outcomeNow, refusedBlock, blockOf};
+ghost use Rattle.receiver.specs.Block.{one, two, outcomeNow, blockOf};
 ghost use Rattle.receiver.specs.Admitted.{admittedOf};
 ghost use Rattle.checks.specs.Refusal.{numberOf};
-ghost use mathlib.Core.Bool.{true};
+use super::streams::refused;
+use super::streams::take_any;
 use checks::block::judged;
 use checks::refusal::Verdict;
 use checks::refusal::is_accepted;
@@ -13,11 +16,10 @@ use oscillator::is_conjugated;
 use receiver_state::state::Receiver;
 use receiver_state::state::Snapshot;
 use receiver_state::state::snapshot_of;
-use receiver_state::state::zero_snapshot;
 use run::Running;
 use run::run;
 
-// How many dibits were written, and how many samples have a part above 1 in size.
+// How many dibits were written for each stream, and how many samples have a part above 1 in size.
 pub struct Block {
     pub verdict: Verdict,
     pub count: usize,
@@ -26,21 +28,9 @@ pub struct Block {
     pub receiver: Receiver,
 }
 
-fn refused(verdict: Verdict, r: Receiver) -> Block
-    ensures { λ x. ⌜ x ≡ refusedBlock verdict r ⌝ }
-{
-    let snapshot = zero_snapshot();
-    Block {
-        verdict,
-        count: 0,
-        overload: 0,
-        snapshot,
-        receiver: r,
-    }
-}
-
-// Takes a block: pairs of floats in; dibits, and two reliabilities for each, out. The planes are taken
-// out of the state before anything else and put back at the end, so that each is copied twice a call.
+// Takes a block for one stream. Where the second is enabled it runs too, and a dibit is given only where
+// both have one. Where it is not, its memory is copied once, from the state given to the state returned;
+// the state goes to the other call by a copy of its own, so that this one needs none.
 pub fn take(
     r: Receiver,
     table: &[f32],
@@ -48,11 +38,28 @@ pub fn take(
     dibits: &mut [u8],
     reliabilities: &mut [u8],
 ) -> Block
-    ensures same { λ x. ⌜ outcomeNow x (now (dibits .exit)) (now (reliabilities .exit))
-        ≡ blockOf r (now (table .entry)) (now (samples .entry)) (now (dibits .entry)) (now (reliabilities .entry)) ⌝ }
+    ensures same { λ x. ⌜ outcomeNow x (now (dibits .exit)) (now (reliabilities .exit)) [] []
+        ≡ blockOf r (now (table .entry)) (now (samples .entry)) (one (now (dibits .entry)) (now (reliabilities .entry))) ⌝ }
     ensures kept { λ x. ⌜ (numberOf (x .verdict) ≡ 0 → admittedOf (x .receiver) ≡ true) ⌝ }
     ensures most { λ x. ⌜ x .count ≤ length (now (samples .entry)) ⌝ }
 {
+    let second = r.second;
+    let mut others = [0; 0];
+    let mut other_reliabilities = [0; 0];
+    if second.enabled {
+        let state = r;
+        let block = take_any(
+            state,
+            table,
+            samples,
+            dibits,
+            reliabilities,
+            &mut others,
+            &mut other_reliabilities,
+            false,
+        );
+        return block;
+    }
     let front = r.front;
     let chain = r.chain;
     let records = r.records;
@@ -70,11 +77,14 @@ pub fn take(
     let mut parents = r.parents;
     let mut view_real = r.view_real;
     let mut view_imaginary = r.view_imaginary;
+    let mut ancestors = r.ancestors;
     let c = judged(
         r.total,
         front,
         chain,
+        second,
         &parents,
+        &ancestors,
         samples,
         table.len(),
         dibits.len(),
@@ -82,10 +92,12 @@ pub fn take(
     );
     let verdict = c.verdict;
     if is_accepted(verdict) {
+        let mut none = [0.0; 0];
         let first = Running {
             front,
             chain,
             records,
+            second,
             from: 0,
             written: 0,
         };
@@ -108,13 +120,20 @@ pub fn take(
             &mut parents,
             &mut view_real,
             &mut view_imaginary,
+            &mut none,
+            &mut ancestors,
             &mut *dibits,
             &mut *reliabilities,
+            &mut others,
+            &mut other_reliabilities,
+            false,
         );
         let front_after = t.front;
         let chain_after = t.chain;
         let records_after = t.records;
+        let second_after = t.second;
         let snapshot = snapshot_of(chain_after);
+        let memory = r.memory;
         let receiver = Receiver {
             total: r.total + ((samples.len() / 2) as u64),
             front: front_after,
@@ -134,6 +153,9 @@ pub fn take(
             parents,
             view_real,
             view_imaginary,
+            second: second_after,
+            memory,
+            ancestors,
         };
         return Block {
             verdict: Verdict::Accepted,
@@ -143,6 +165,7 @@ pub fn take(
             receiver,
         };
     }
+    let memory = r.memory;
     let receiver = Receiver {
         total: r.total,
         front,
@@ -162,6 +185,37 @@ pub fn take(
         parents,
         view_real,
         view_imaginary,
+        second,
+        memory,
+        ancestors,
     };
     refused(verdict, receiver)
+}
+
+// Takes a block for both streams: before the second is enabled the first is written twice.
+pub fn take_both(
+    r: Receiver,
+    table: &[f32],
+    samples: &[f32],
+    dibits: &mut [u8],
+    reliabilities: &mut [u8],
+    others: &mut [u8],
+    other_reliabilities: &mut [u8],
+) -> Block
+    ensures same { λ x. ⌜ outcomeNow x (now (dibits .exit)) (now (reliabilities .exit)) (now (others .exit)) (now («other_reliabilities» .exit))
+        ≡ blockOf r (now (table .entry)) (now (samples .entry))
+        (two (now (dibits .entry)) (now (reliabilities .entry)) (now (others .entry)) (now («other_reliabilities» .entry))) ⌝ }
+    ensures kept { λ x. ⌜ (numberOf (x .verdict) ≡ 0 → admittedOf (x .receiver) ≡ true) ⌝ }
+    ensures most { λ x. ⌜ x .count ≤ length (now (samples .entry)) ⌝ }
+{
+    take_any(
+        r,
+        table,
+        samples,
+        dibits,
+        reliabilities,
+        others,
+        other_reliabilities,
+        true,
+    )
 }

@@ -18,10 +18,12 @@ pub fn read(r: Receiver, output: &mut [f32]) -> Points
 {
     let front = r.front;
     let chain = r.chain;
+    let second = r.second;
     let parents = r.parents;
+    let ancestors = r.ancestors;
     let real = r.view_real;
     let imaginary = r.view_imaginary;
-    if is_admitted(r.total, front, chain, &parents) {
+    if is_admitted(r.total, front, chain, second, &parents, &ancestors) {
         let view = chain.view;
         let p = signal::read(view, &real, &imaginary, output);
         return Points {

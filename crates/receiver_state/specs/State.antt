@@ -19,6 +19,8 @@ use Rattle.chain.specs.Chain as chain
 use Rattle.answers.specs.declared.soft.Soft.the-variants.{Unrecorded}
 use Rattle.answers.specs.declared.soft.Records.{Records}
 use Rattle.answers.specs.declared.walk.Previous.the-variants.{Unknown}
+use Rattle.carrier.specs.declared.CarrierPlace.{CarrierPlace}
+use Rattle.second.specs.declared.Second.{Second}
 use Rattle.front.specs.declared.FrontPlace.{FrontPlace}
 use Rattle.chain.specs.declared.ChainPlace.{ChainPlace}
 use Rattle.receiver_state.specs.declared.state.Receiver.{Receiver}
@@ -36,14 +38,17 @@ zeroFront = record {
   resampler = record { arm = 0; half = 0; step = zero64; index = 0; next = zero64; write = 0 };
 }
 
+unfoldable pub zeroCarrier : CarrierPlace
+zeroCarrier = record {
+  turn = record { phase = zero64; frequency = zero64; alternation = 0; locked = false; error = zero64 };
+  detector = record { write = 0; filled = 0; previous = Unknown; combined = Absent; noise = zero32 };
+}
+
 unfoldable pub zeroChain : ChainPlace
 zeroChain = record {
   keeper = peak.freshPlace;
   clock = record { start = 0; count = 0; position = 0; warm = false; phase = zero32; rate = zero32 };
-  carrier = record {
-    turn = record { phase = zero64; frequency = zero64; alternation = 0; locked = false; error = zero64 };
-    detector = record { write = 0; filled = 0; previous = Unknown; combined = Absent; noise = zero32 };
-  };
+  carrier = zeroCarrier;
   view = signal.freshPlace;
   profile = pos 0;
   symbols = 0;
@@ -52,6 +57,10 @@ zeroChain = record {
 
 abbrev pub noRecords : Records
 noRecords = record { slots = replicate 32 (record { soft = Unrecorded }) }
+
+-- the second tracker as long as it is not enabled
+unfoldable pub zeroSecond : Second
+zeroSecond = record { enabled = false; carrier = zeroCarrier; records = noRecords }
 
 unfoldable pub zeroReceiver : Receiver
 zeroReceiver = record {
@@ -73,6 +82,9 @@ zeroReceiver = record {
   parents = replicate 2048 0;
   «view_real» = zeroes 1024;
   «view_imaginary» = zeroes 1024;
+  second = zeroSecond;
+  memory = zeroes 9280;
+  ancestors = replicate 2048 0;
 }
 
 -- ---- fresh
@@ -100,6 +112,9 @@ freshReceiver front profile = record {
   parents = replicate 2048 0;
   «view_real» = zeroes 1024;
   «view_imaginary» = zeroes 1024;
+  second = zeroSecond;
+  memory = zeroes 9280;
+  ancestors = replicate 2048 0;
 }
 
 -- ---- what is shown

@@ -1,6 +1,6 @@
 // The whole state: small places by value, and the planes that a block lends to its steps.
 ghost use mathlib.Core.Path.{_≡_};
-ghost use Rattle.receiver_state.specs.State.{freshReceiver, zeroFront, zeroChain, zeroReceiver, zeroSnapshot, flagOf, snapshotOf};
+ghost use Rattle.receiver_state.specs.State.{freshReceiver, zeroFront, zeroCarrier, zeroChain, zeroSecond, zeroReceiver, zeroSnapshot, flagOf, snapshotOf};
 use answers::PARENTS;
 use answers::STEPS;
 use answers::soft::Records;
@@ -22,11 +22,15 @@ use oscillator::Oscillator;
 use peak::VALUES;
 use resampler::pass::PLACES;
 use resampler::pass::Resampler;
+use second::MEMORY;
+use second::Second;
 use sequence::step::DetectorPlace;
 use signal::POINTS;
 
 // Total is how many samples were taken. The planes: the resampler's ring, the peak keeper's, the
-// clock's, the equalizer's weights, the detector's channels, costs and parents, the view's ring.
+// clock's, the equalizer's weights, the detector's channels, costs and parents, the view's ring. The
+// second tracker has its memory and its parents, the ancestors; while it is not enabled nothing of it is
+// looked at, and all of it is handed back as given.
 pub struct Receiver {
     pub total: u64,
     pub front: FrontPlace,
@@ -46,6 +50,9 @@ pub struct Receiver {
     pub parents: [u8; PARENTS],
     pub view_real: [f32; POINTS],
     pub view_imaginary: [f32; POINTS],
+    pub second: Second,
+    pub memory: [f32; MEMORY],
+    pub ancestors: [u8; PARENTS],
 }
 
 // Dibits delivered since setup and those of them under lock, the carrier's smoothed error, its
@@ -82,17 +89,9 @@ fn zero_front() -> FrontPlace
     }
 }
 
-fn zero_chain() -> ChainPlace
-    ensures { λ r. ⌜ r ≡ zeroChain ⌝ }
+fn zero_carrier() -> CarrierPlace
+    ensures { λ r. ⌜ r ≡ zeroCarrier ⌝ }
 {
-    let clock = ClockPlace {
-        start: 0,
-        count: 0,
-        position: 0,
-        warm: false,
-        phase: 0.0,
-        rate: 0.0,
-    };
     let turn = Loop {
         phase: 0.0,
         frequency: 0.0,
@@ -107,14 +106,46 @@ fn zero_chain() -> ChainPlace
         combined: Observation::Absent,
         noise: 0.0,
     };
+    CarrierPlace { turn, detector }
+}
+
+fn zero_chain() -> ChainPlace
+    ensures { λ r. ⌜ r ≡ zeroChain ⌝ }
+{
+    let clock = ClockPlace {
+        start: 0,
+        count: 0,
+        position: 0,
+        warm: false,
+        phase: 0.0,
+        rate: 0.0,
+    };
+    let carrier = zero_carrier();
     ChainPlace {
         keeper: peak::fresh(),
         clock,
-        carrier: CarrierPlace { turn, detector },
+        carrier,
         view: signal::fresh(),
         profile: 0,
         symbols: 0,
         locked: 0,
+    }
+}
+
+// The second tracker as long as it is not enabled.
+fn zero_second() -> Second
+    ensures { λ r. ⌜ r ≡ zeroSecond ⌝ }
+{
+    let carrier = zero_carrier();
+    let slot = Slot {
+        soft: Soft::Unrecorded,
+    };
+    Second {
+        enabled: false,
+        carrier,
+        records: Records {
+            slots: [slot; STEPS],
+        },
     }
 }
 
@@ -124,6 +155,7 @@ pub fn zero() -> Receiver
 {
     let front = zero_front();
     let chain = zero_chain();
+    let second = zero_second();
     let slot = Slot {
         soft: Soft::Unrecorded,
     };
@@ -148,6 +180,9 @@ pub fn zero() -> Receiver
         parents: [0; PARENTS],
         view_real: [0.0; POINTS],
         view_imaginary: [0.0; POINTS],
+        second,
+        memory: [0.0; MEMORY],
+        ancestors: [0; PARENTS],
     }
 }
 
@@ -158,6 +193,7 @@ pub fn fresh(front: FrontPlace, profile: i32) -> Receiver
     let records = sequence::step::fresh_records();
     let weights = equalizer::fresh_real();
     let channels = sequence::step::fresh_channels();
+    let second = zero_second();
     Receiver {
         total: 0,
         front,
@@ -177,6 +213,9 @@ pub fn fresh(front: FrontPlace, profile: i32) -> Receiver
         parents: [0; PARENTS],
         view_real: [0.0; POINTS],
         view_imaginary: [0.0; POINTS],
+        second,
+        memory: [0.0; MEMORY],
+        ancestors: [0; PARENTS],
     }
 }
 

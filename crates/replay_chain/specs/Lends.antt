@@ -5,10 +5,12 @@ use denote.Ref.{now}
 use Rattle.laws.specs.Lent.{Now, Lends}
 use Rattle.chain.specs.declared.ChainPlace.{ChainPlace}
 use Rattle.chain.specs.Chain.{ChainState, stateOf}
+use Rattle.second.specs.declared.Second.{Second}
+use Rattle.second.specs.Second.{secondOf}
 
 -- the chain as it is given
-module _ (p : ChainPlace) (keeperReal keeperImaginary clockReal clockImaginary weightReal weightImaginary : Now Float)
-    (channelReal channelImaginary costs : Now Float) (parents : Now ℕ) (viewReal viewImaginary : Now Float) where
+module _ (p : ChainPlace) (s : Second) (keeperReal keeperImaginary clockReal clockImaginary weightReal weightImaginary : Now Float)
+    (channelReal channelImaginary costs : Now Float) (parents : Now ℕ) (viewReal viewImaginary : Now Float) (memory : Now Float) (ancestors : Now ℕ) where
   abbrev pub given : (ChainState → Type 0) → Type 0
   given P =
       P
@@ -18,11 +20,12 @@ module _ (p : ChainPlace) (keeperReal keeperImaginary clockReal clockImaginary w
       (now weightReal) (now weightImaginary)
       (now channelReal) (now channelImaginary)
       (now costs) (now parents)
-      (now viewReal) (now viewImaginary))
+      (now viewReal) (now viewImaginary)
+      (secondOf s (now memory) (now ancestors)))
 
 -- and as it is left
-module _ (p : ChainPlace) (keeperReal keeperImaginary clockReal clockImaginary weightReal weightImaginary : Lends Float)
-    (channelReal channelImaginary costs : Lends Float) (parents : Lends ℕ) (viewReal viewImaginary : Lends Float) where
+module _ (p : ChainPlace) (s : Second) (keeperReal keeperImaginary clockReal clockImaginary weightReal weightImaginary : Lends Float)
+    (channelReal channelImaginary costs : Lends Float) (parents : Lends ℕ) (viewReal viewImaginary : Lends Float) (memory : Lends Float) (ancestors : Lends ℕ) where
   abbrev pub left : (ChainState → Type 0) → Type 0
   left P =
       P
@@ -32,4 +35,5 @@ module _ (p : ChainPlace) (keeperReal keeperImaginary clockReal clockImaginary w
       (now (weightReal .exit)) (now (weightImaginary .exit))
       (now (channelReal .exit)) (now (channelImaginary .exit))
       (now (costs .exit)) (now (parents .exit))
-      (now (viewReal .exit)) (now (viewImaginary .exit)))
+      (now (viewReal .exit)) (now (viewImaginary .exit))
+      (secondOf s (now (memory .exit)) (now (ancestors .exit))))

@@ -1,11 +1,14 @@
-// Runs the chain on each run of rows from standard input, from the run's own state, and writes a line
-// for each row: the digest of its dibits and of the whole state after it, in the order of the list
-// that the oracle prints.
+// Runs the chain on each run of rows from standard input, from the run's own state, with a second stream
+// or without, and writes a line for each row: the digest of its dibits and of the whole state after it, in
+// the order of the list that the oracle prints.
+ghost use mathlib.Core.Path.{_≡_};
+ghost use mathlib.Core.Bool.{cond};
 ghost use Prim.Native.Nat.{_+_, _<_, _≤_};
 ghost use lib.ListN.{length};
 ghost use Rattle.chain.specs.Ranges.{mostSymbols, Ranged};
 ghost use Rattle.replay_chain.specs.Sound.{Sound};
 ghost use Rattle.replay_chain.specs.Lends.{given, left};
+use answers::PARENTS;
 use answers::soft::Records;
 use carrier::CarrierPlace;
 use carrier::Loop;
@@ -20,7 +23,6 @@ use replay::fill;
 use replay::mixed;
 use replay::mixed_bytes;
 use replay::mixed_flag;
-use replay::mixed_float;
 use replay::mixed_float32;
 use replay::mixed_plane;
 use replay::print_line;
@@ -33,6 +35,12 @@ use replay_detector::mixed_place;
 use replay_detector::mixed_point;
 use replay_detector::mixed_records;
 use replay_detector::started;
+use replay_second::Making;
+use replay_second::made_second;
+use replay_second::mixed_loop;
+use replay_second::mixed_second;
+use second::MEMORY;
+use second::Second;
 use signal::ViewPlace;
 
 // The state's own words, and how many rows follow.
@@ -98,10 +106,38 @@ fn profile(places: u64) -> i32 {
     }
 }
 
+// A flag's byte.
+fn is_set(a: u64) -> bool {
+    a % 256 == 1
+}
+
 fn read_word() -> u64 {
     let mut encoded = [0u8; 8];
     io::read_full(0, &mut encoded);
     word(&encoded, 0)
+}
+
+// The second stream of a run, where it has one: six words from standard input.
+fn read_making(has: bool) -> Making {
+    if has {
+        Making {
+            seed: read_word(),
+            start: read_word(),
+            flags: read_word(),
+            phase: read_word(),
+            frequency: read_word(),
+            error: read_word(),
+        }
+    } else {
+        Making {
+            seed: 0,
+            start: 0,
+            flags: 0,
+            phase: 0,
+            frequency: 0,
+            error: 0,
+        }
+    }
 }
 
 // Values from standard input into the first places of a row.
@@ -127,14 +163,6 @@ fn mixed_clock(h: u64, c: ClockPlace) -> u64 {
     mixed_float32(mixed_float32(place, c.phase), c.rate)
 }
 
-fn mixed_loop(h: u64, l: Loop) -> u64 {
-    let turn = mixed_float(mixed_float(h, l.phase), l.frequency);
-    mixed_float(
-        mixed_flag(mixed(turn, l.alternation as u64), l.locked),
-        l.error,
-    )
-}
-
 fn mixed_chain(h: u64, p: ChainPlace) -> u64 {
     let keeper = p.keeper;
     let clock = p.clock;
@@ -151,11 +179,31 @@ fn mixed_planes(h: u64, real: &[f32], imaginary: &[f32]) -> u64 {
     mixed_plane(mixed_plane(h, real), imaginary)
 }
 
+// The digest with both streams' bytes, where the run has a second.
+fn mixed_streams(
+    h: u64,
+    has: bool,
+    dibits: &[u8; 264],
+    reliabilities: &[u8; 528],
+    others: &[u8; 264],
+    other_reliabilities: &[u8; 528],
+) -> u64 {
+    let first = mixed_bytes(mixed_bytes(h, dibits), reliabilities);
+    if has {
+        mixed_bytes(mixed_bytes(first, others), other_reliabilities)
+    } else {
+        first
+    }
+}
+
 // The digest of a row's dibits and of the whole state after it.
 fn tell(
     c: Chained,
+    has: bool,
     dibits: &[u8; 264],
     reliabilities: &[u8; 528],
+    others: &[u8; 264],
+    other_reliabilities: &[u8; 528],
     keeper_real: &[f32; 64],
     keeper_imaginary: &[f32; 64],
     clock_real: &[f32; 256],
@@ -168,14 +216,20 @@ fn tell(
     parents: &[u8; 2048],
     view_real: &[f32; 1024],
     view_imaginary: &[f32; 1024],
+    memory: &[f32; MEMORY],
+    ancestors: &[u8; PARENTS],
 ) {
     let p = c.place;
     let records = c.records;
     let carrier = p.carrier;
     let detector = carrier.detector;
-    let h1 = mixed_bytes(
-        mixed_bytes(mixed(0, c.written as u64), dibits),
+    let h1 = mixed_streams(
+        mixed(0, c.written as u64),
+        has,
+        dibits,
         reliabilities,
+        others,
+        other_reliabilities,
     );
     let h2 = mixed_planes(mixed_chain(h1, p), keeper_real, keeper_imaginary);
     let h3 = mixed_planes(h2, clock_real, clock_imaginary);
@@ -183,13 +237,30 @@ fn tell(
     let h5 = mixed_place(h4, detector);
     let h6 = mixed_planes(h5, channel_real, channel_imaginary);
     let h7 = mixed_records(mixed_bytes(mixed_plane(h6, costs), parents), records);
-    print_line(mixed_planes(h7, view_real, view_imaginary), 16);
+    let h8 = mixed_planes(h7, view_real, view_imaginary);
+    let second = c.second;
+    if has {
+        print_line(mixed_second(h8, second, memory, ancestors), 16);
+    } else {
+        print_line(h8, 16);
+    }
+}
+
+// The second stream's room is lent only where both streams are asked for.
+fn rooms(both: bool) -> usize
+    ensures { λ r. ⌜ r ≡ cond both 264 0 ⌝ }
+    ensures most { λ r. ⌜ r ≤ 264 ⌝ }
+{
+    if both { 264 } else { 0 }
 }
 
 // One row.
 fn row(
     place: ChainPlace,
     held: Records,
+    second: Second,
+    has: bool,
+    both: bool,
     row_real: &[f32; 256],
     row_imaginary: &[f32; 256],
     made: usize,
@@ -206,26 +277,33 @@ fn row(
     parents: &mut [u8; 2048],
     view_real: &mut [f32; 1024],
     view_imaginary: &mut [f32; 1024],
+    memory: &mut [f32; MEMORY],
+    ancestors: &mut [u8; PARENTS],
 ) -> Chained
-    requires { ⌜ given place
+    requires { ⌜ given place second
         «keeper_real» «keeper_imaginary» «clock_real» «clock_imaginary»
         «weight_real» «weight_imaginary» «channel_real» «channel_imaginary» costs parents
-        «view_real» «view_imaginary»
+        «view_real» «view_imaginary» memory ancestors
         Ranged ⌝ }
     requires { ⌜ place .symbols + 256 ≤ mostSymbols ⌝ }
     requires { ⌜ made ≤ 256 ⌝ }
     requires { ⌜ before ≤ 8 ⌝ }
-    ensures { λ r. ⌜ left (r .place)
+    ensures { λ r. ⌜ left (r .place) (r .second)
         «keeper_real» «keeper_imaginary» «clock_real» «clock_imaginary»
         «weight_real» «weight_imaginary» «channel_real» «channel_imaginary» costs parents
-        «view_real» «view_imaginary»
+        «view_real» «view_imaginary» memory ancestors
         Ranged ⌝ }
 {
     let mut dibits = [170u8; 264];
     let mut reliabilities = [170u8; 528];
+    let mut others = [170u8; 264];
+    let mut other_reliabilities = [170u8; 528];
+    let room = rooms(both);
+    let pairs = 2 * room;
     let c = chain::chain(
         place,
         held,
+        second,
         row_real,
         row_imaginary,
         made,
@@ -241,14 +319,22 @@ fn row(
         &mut *parents,
         &mut *view_real,
         &mut *view_imaginary,
+        &mut *memory,
+        &mut *ancestors,
         &mut dibits,
         &mut reliabilities,
+        &mut others[..room],
+        &mut other_reliabilities[..pairs],
+        both,
         before,
     );
     tell(
         c,
+        has,
         &dibits,
         &reliabilities,
+        &others,
+        &other_reliabilities,
         keeper_real,
         keeper_imaginary,
         clock_real,
@@ -261,6 +347,8 @@ fn row(
         parents,
         view_real,
         view_imaginary,
+        memory,
+        ancestors,
     );
     c
 }
@@ -270,6 +358,9 @@ fn run(
     rows: u64,
     place: ChainPlace,
     held: Records,
+    first: Second,
+    has: bool,
+    both: bool,
     keeper_real: &mut [f32; 64],
     keeper_imaginary: &mut [f32; 64],
     clock_real: &mut [f32; 256],
@@ -282,17 +373,20 @@ fn run(
     parents: &mut [u8; 2048],
     view_real: &mut [f32; 1024],
     view_imaginary: &mut [f32; 1024],
+    memory: &mut [f32; MEMORY],
+    ancestors: &mut [u8; PARENTS],
 )
-    requires { ⌜ given place
+    requires { ⌜ given place first
         «keeper_real» «keeper_imaginary» «clock_real» «clock_imaginary»
         «weight_real» «weight_imaginary» «channel_real» «channel_imaginary» costs parents
-        «view_real» «view_imaginary»
+        «view_real» «view_imaginary» memory ancestors
         Ranged ⌝ }
 {
     let mut row_real: [f32; 256] = [0.0; 256];
     let mut row_imaginary: [f32; 256] = [0.0; 256];
     let mut p = place;
     let mut records = held;
+    let mut second = first;
     let mut left = rows;
     while left > 0 {
         let head = read_word();
@@ -305,6 +399,9 @@ fn run(
         let c = row(
             p,
             records,
+            second,
+            has,
+            both,
             &row_real,
             &row_imaginary,
             made,
@@ -321,9 +418,12 @@ fn run(
             &mut *parents,
             &mut *view_real,
             &mut *view_imaginary,
+            &mut *memory,
+            &mut *ancestors,
         );
         p = c.place;
         records = c.records;
+        second = c.second;
         left -= 1;
     }
 }
@@ -340,6 +440,8 @@ struct Request {
     profile: i32,
     symbols: u64,
     locked: u64,
+    has_second: bool,
+    both: bool,
 }
 
 fn decoded(head: &[u8]) -> Request
@@ -364,6 +466,8 @@ fn decoded(head: &[u8]) -> Request
         profile: profile(places),
         symbols,
         locked: least(word(head, 64), symbols),
+        has_second: is_set(high(places) / 256),
+        both: is_set(high(places) / 65536),
     }
 }
 
@@ -411,6 +515,9 @@ fn answer(q: Request)
     let keeper = q.keeper;
     let clock = q.clock;
     let turn = q.turn;
+    let mut memory: [f32; MEMORY] = [0.0; MEMORY];
+    let mut ancestors: [u8; PARENTS] = [0; PARENTS];
+    let second = made_second(read_making(q.has_second), &mut memory, &mut ancestors);
     if !clock::is_admitted(clock) {
         io::write_all(1, b"not admitted\n");
         return;
@@ -428,6 +535,9 @@ fn answer(q: Request)
         q.rows,
         p,
         held,
+        second,
+        q.has_second,
+        q.both,
         &mut keeper_real,
         &mut keeper_imaginary,
         &mut clock_real,
@@ -440,6 +550,8 @@ fn answer(q: Request)
         &mut parents,
         &mut view_real,
         &mut view_imaginary,
+        &mut memory,
+        &mut ancestors,
     );
 }
 

@@ -1,7 +1,9 @@
-// A receiver's state as a row of 6,757 words, in the oracle's order: a number a word, two's
+// A receiver's state as a row of 18,262 words, in the oracle's order: a number a word, two's
 // complement for signed ones, an option as 1 and its values or zeros, planes of reals before planes
-// of imaginaries. Three words stay zero: an observation that the Rust keeps and never reads.
+// of imaginaries. The second stream's words are the last 11,505. Three words of each detector stay zero:
+// an observation that the Rust keeps and never reads.
 ghost use Prim.Native.Nat.{_+_, _<_};
+use answers::PARENTS;
 use answers::soft::Records;
 use answers::soft::Slot;
 use answers::soft::Soft;
@@ -26,8 +28,12 @@ use oscillator::Oscillator;
 use peak::KeeperPlace;
 use receiver_state::state::Receiver;
 use resampler::pass::Resampler;
+use second::MEMORY;
+use second::Second;
 use sequence::step::DetectorPlace;
 use signal::ViewPlace;
+
+pub const WORDS: usize = 18262;
 
 // ---- words to numbers
 
@@ -35,26 +41,26 @@ fn low(w: u64) -> u32 {
     (w % 0x1_0000_0000) as u32
 }
 
-fn float_at(words: &[u64; 6757], at: usize) -> f64
-    requires { ⌜ at < 6757 ⌝ }
+fn float_at(words: &[u64; WORDS], at: usize) -> f64
+    requires { ⌜ at < 18262 ⌝ }
 {
     float(words[at])
 }
 
-fn float32_at(words: &[u64; 6757], at: usize) -> f32
-    requires { ⌜ at < 6757 ⌝ }
+fn float32_at(words: &[u64; WORDS], at: usize) -> f32
+    requires { ⌜ at < 18262 ⌝ }
 {
     float32(low(words[at]))
 }
 
-fn place_at(words: &[u64; 6757], at: usize) -> usize
-    requires { ⌜ at < 6757 ⌝ }
+fn place_at(words: &[u64; WORDS], at: usize) -> usize
+    requires { ⌜ at < 18262 ⌝ }
 {
     words[at] as usize
 }
 
-fn flag_at(words: &[u64; 6757], at: usize) -> bool
-    requires { ⌜ at < 6757 ⌝ }
+fn flag_at(words: &[u64; WORDS], at: usize) -> bool
+    requires { ⌜ at < 18262 ⌝ }
 {
     words[at] == 1
 }
@@ -72,8 +78,8 @@ pub fn profile_of(w: u64) -> i32 {
     }
 }
 
-fn observation_at(words: &[u64; 6757], at: usize) -> Observation
-    requires { ⌜ at + 2 < 6757 ⌝ }
+fn observation_at(words: &[u64; WORDS], at: usize) -> Observation
+    requires { ⌜ at + 2 < 18262 ⌝ }
 {
     if flag_at(words, at) {
         Observation::Present(Complex32 {
@@ -85,8 +91,8 @@ fn observation_at(words: &[u64; 6757], at: usize) -> Observation
     }
 }
 
-fn previous_at(words: &[u64; 6757], at: usize) -> Previous
-    requires { ⌜ at + 1 < 6757 ⌝ }
+fn previous_at(words: &[u64; WORDS], at: usize) -> Previous
+    requires { ⌜ at + 1 < 18262 ⌝ }
 {
     if flag_at(words, at) {
         Previous::Symbol(place_at(words, at + 1))
@@ -95,8 +101,8 @@ fn previous_at(words: &[u64; 6757], at: usize) -> Previous
     }
 }
 
-fn soft_at(words: &[u64; 6757], at: usize) -> Soft
-    requires { ⌜ at + 4 < 6757 ⌝ }
+fn soft_at(words: &[u64; WORDS], at: usize) -> Soft
+    requires { ⌜ at + 4 < 18262 ⌝ }
 {
     if flag_at(words, at) {
         Soft::Recorded(
@@ -110,21 +116,23 @@ fn soft_at(words: &[u64; 6757], at: usize) -> Soft
     }
 }
 
-fn records_at(words: &[u64; 6757]) -> Records {
+fn records_at(words: &[u64; WORDS], from: usize) -> Records
+    requires { ⌜ from + 159 < 18262 ⌝ }
+{
     let none = Slot {
         soft: Soft::Unrecorded,
     };
     let mut records = Records { slots: [none; 32] };
     let mut i = 0;
     while i < 32 {
-        let soft = soft_at(words, 4549 + 5 * i);
+        let soft = soft_at(words, from + 5 * i);
         records.slots[i] = Slot { soft };
         i += 1;
     }
     records
 }
 
-fn oscillator_at(words: &[u64; 6757]) -> Oscillator {
+fn oscillator_at(words: &[u64; WORDS]) -> Oscillator {
     Oscillator {
         real: float_at(words, 2),
         imaginary: float_at(words, 3),
@@ -134,8 +142,8 @@ fn oscillator_at(words: &[u64; 6757]) -> Oscillator {
     }
 }
 
-fn sums_at(words: &[u64; 6757], at: usize) -> Sums
-    requires { ⌜ at + 2 < 6757 ⌝ }
+fn sums_at(words: &[u64; WORDS], at: usize) -> Sums
+    requires { ⌜ at + 2 < 18262 ⌝ }
 {
     Sums {
         first: words[at],
@@ -144,8 +152,8 @@ fn sums_at(words: &[u64; 6757], at: usize) -> Sums
     }
 }
 
-fn delays_at(words: &[u64; 6757], at: usize) -> Delays
-    requires { ⌜ at + 2 < 6757 ⌝ }
+fn delays_at(words: &[u64; WORDS], at: usize) -> Delays
+    requires { ⌜ at + 2 < 18262 ⌝ }
 {
     Delays {
         first: words[at],
@@ -154,7 +162,7 @@ fn delays_at(words: &[u64; 6757], at: usize) -> Delays
     }
 }
 
-fn decimator_at(words: &[u64; 6757]) -> Decimator {
+fn decimator_at(words: &[u64; WORDS]) -> Decimator {
     Decimator {
         decimation: place_at(words, 7),
         counter: place_at(words, 8),
@@ -169,7 +177,7 @@ fn decimator_at(words: &[u64; 6757]) -> Decimator {
     }
 }
 
-fn resampler_at(words: &[u64; 6757]) -> Resampler {
+fn resampler_at(words: &[u64; WORDS]) -> Resampler {
     Resampler {
         arm: place_at(words, 21),
         half: place_at(words, 22),
@@ -180,7 +188,7 @@ fn resampler_at(words: &[u64; 6757]) -> Resampler {
     }
 }
 
-fn front_at(words: &[u64; 6757]) -> FrontPlace {
+fn front_at(words: &[u64; WORDS]) -> FrontPlace {
     FrontPlace {
         oscillator: oscillator_at(words),
         decimator: decimator_at(words),
@@ -188,7 +196,7 @@ fn front_at(words: &[u64; 6757]) -> FrontPlace {
     }
 }
 
-fn clock_at(words: &[u64; 6757]) -> ClockPlace {
+fn clock_at(words: &[u64; WORDS]) -> ClockPlace {
     ClockPlace {
         start: place_at(words, 30),
         count: place_at(words, 31),
@@ -199,26 +207,28 @@ fn clock_at(words: &[u64; 6757]) -> ClockPlace {
     }
 }
 
-fn carrier_at(words: &[u64; 6757]) -> CarrierPlace {
+fn carrier_at(words: &[u64; WORDS], at: usize) -> CarrierPlace
+    requires { ⌜ at + 15 < 18262 ⌝ }
+{
     CarrierPlace {
         turn: Loop {
-            phase: float_at(words, 36),
-            frequency: float_at(words, 37),
-            alternation: low(words[38]),
-            locked: flag_at(words, 39),
-            error: float_at(words, 40),
+            phase: float_at(words, at),
+            frequency: float_at(words, at + 1),
+            alternation: low(words[at + 2]),
+            locked: flag_at(words, at + 3),
+            error: float_at(words, at + 4),
         },
         detector: DetectorPlace {
-            write: place_at(words, 41),
-            filled: place_at(words, 42),
-            previous: previous_at(words, 43),
-            combined: observation_at(words, 45),
-            noise: float32_at(words, 51),
+            write: place_at(words, at + 5),
+            filled: place_at(words, at + 6),
+            previous: previous_at(words, at + 7),
+            combined: observation_at(words, at + 9),
+            noise: float32_at(words, at + 15),
         },
     }
 }
 
-fn chain_at(words: &[u64; 6757]) -> ChainPlace {
+fn chain_at(words: &[u64; WORDS]) -> ChainPlace {
     ChainPlace {
         keeper: KeeperPlace {
             head: place_at(words, 27),
@@ -226,7 +236,7 @@ fn chain_at(words: &[u64; 6757]) -> ChainPlace {
             reference: float32_at(words, 29),
         },
         clock: clock_at(words),
-        carrier: carrier_at(words),
+        carrier: carrier_at(words, 36),
         view: ViewPlace {
             previous: observation_at(words, 52),
             head: place_at(words, 55),
@@ -238,13 +248,21 @@ fn chain_at(words: &[u64; 6757]) -> ChainPlace {
     }
 }
 
-fn word_at(words: &[u64; 6757], at: usize) -> u64 {
-    if at < 6757 { words[at] } else { 0 }
+fn second_at(words: &[u64; WORDS]) -> Second {
+    Second {
+        enabled: flag_at(words, 6757),
+        carrier: carrier_at(words, 6758),
+        records: records_at(words, 6774),
+    }
+}
+
+fn word_at(words: &[u64; WORDS], at: usize) -> u64 {
+    if at < WORDS { words[at] } else { 0 }
 }
 
 // A plane from its words.
-fn take_plane(words: &[u64; 6757], from: usize, plane: &mut [f32])
-    requires { ⌜ from < 6757 ⌝ }
+fn take_plane(words: &[u64; WORDS], from: usize, plane: &mut [f32])
+    requires { ⌜ from < 18262 ⌝ }
 {
     let mut i = 0;
     while i < plane.len() {
@@ -253,20 +271,22 @@ fn take_plane(words: &[u64; 6757], from: usize, plane: &mut [f32])
     }
 }
 
-fn take_parents(words: &[u64; 6757], parents: &mut [u8; 2048]) {
+fn take_parents(words: &[u64; WORDS], from: usize, parents: &mut [u8; PARENTS])
+    requires { ⌜ from + 2047 < 18262 ⌝ }
+{
     let mut i = 0;
-    while i < 2048 {
-        parents[i] = (words[2501 + i] % 256) as u8;
+    while i < PARENTS {
+        parents[i] = (words[from + i] % 256) as u8;
         i += 1;
     }
 }
 
-pub fn decoded(words: &[u64; 6757]) -> Receiver {
+pub fn decoded(words: &[u64; WORDS]) -> Receiver {
     let mut r = receiver_state::state::zero();
     r.total = words[0];
     r.front = front_at(words);
     r.chain = chain_at(words);
-    r.records = records_at(words);
+    r.records = records_at(words, 4549);
     let mut ring_real = [0.0; 592];
     take_plane(words, 59, &mut ring_real);
     r.ring_real = ring_real;
@@ -306,9 +326,16 @@ pub fn decoded(words: &[u64; 6757]) -> Receiver {
     let mut view_imaginary = [0.0; 1024];
     take_plane(words, 5733, &mut view_imaginary);
     r.view_imaginary = view_imaginary;
-    let mut parents = [0; 2048];
-    take_parents(words, &mut parents);
+    let mut parents = [0; PARENTS];
+    take_parents(words, 2501, &mut parents);
     r.parents = parents;
+    r.second = second_at(words);
+    let mut memory = [0.0; MEMORY];
+    take_plane(words, 6934, &mut memory);
+    r.memory = memory;
+    let mut ancestors = [0; PARENTS];
+    take_parents(words, 16214, &mut ancestors);
+    r.ancestors = ancestors;
     r
 }
 
@@ -322,20 +349,20 @@ fn wide32(x: u32) -> u64 {
     x as u64
 }
 
-fn put_flag(words: &mut [u64; 6757], at: usize, flag: bool)
-    requires { ⌜ at < 6757 ⌝ }
+fn put_flag(words: &mut [u64; WORDS], at: usize, flag: bool)
+    requires { ⌜ at < 18262 ⌝ }
 {
     words[at] = if flag { 1 } else { 0 };
 }
 
-fn put_float(words: &mut [u64; 6757], at: usize, x: f64)
-    requires { ⌜ at < 6757 ⌝ }
+fn put_float(words: &mut [u64; WORDS], at: usize, x: f64)
+    requires { ⌜ at < 18262 ⌝ }
 {
     words[at] = pattern(x);
 }
 
-fn put_float32(words: &mut [u64; 6757], at: usize, x: f32)
-    requires { ⌜ at < 6757 ⌝ }
+fn put_float32(words: &mut [u64; WORDS], at: usize, x: f32)
+    requires { ⌜ at < 18262 ⌝ }
 {
     words[at] = pattern32(x) as u64;
 }
@@ -352,16 +379,16 @@ fn profile_word(p: i32) -> u64 {
     }
 }
 
-fn put_complex(words: &mut [u64; 6757], at: usize, present: bool, value: Complex32)
-    requires { ⌜ at + 2 < 6757 ⌝ }
+fn put_complex(words: &mut [u64; WORDS], at: usize, present: bool, value: Complex32)
+    requires { ⌜ at + 2 < 18262 ⌝ }
 {
     put_flag(words, at, present);
     put_float32(words, at + 1, value.real);
     put_float32(words, at + 2, value.imaginary);
 }
 
-fn put_observation(words: &mut [u64; 6757], at: usize, o: Observation)
-    requires { ⌜ at + 2 < 6757 ⌝ }
+fn put_observation(words: &mut [u64; WORDS], at: usize, o: Observation)
+    requires { ⌜ at + 2 < 18262 ⌝ }
 {
     match o {
         Observation::Absent => put_complex(words, at, false, complex::zero()),
@@ -369,8 +396,8 @@ fn put_observation(words: &mut [u64; 6757], at: usize, o: Observation)
     }
 }
 
-fn put_previous(words: &mut [u64; 6757], at: usize, p: Previous)
-    requires { ⌜ at + 1 < 6757 ⌝ }
+fn put_previous(words: &mut [u64; WORDS], at: usize, p: Previous)
+    requires { ⌜ at + 1 < 18262 ⌝ }
 {
     match p {
         Previous::Unknown => {
@@ -384,8 +411,8 @@ fn put_previous(words: &mut [u64; 6757], at: usize, p: Previous)
     }
 }
 
-fn put_record(words: &mut [u64; 6757], at: usize, high: bool, low: bool, first: f32, second: f32)
-    requires { ⌜ at + 3 < 6757 ⌝ }
+fn put_record(words: &mut [u64; WORDS], at: usize, high: bool, low: bool, first: f32, second: f32)
+    requires { ⌜ at + 3 < 18262 ⌝ }
 {
     put_flag(words, at, high);
     put_flag(words, at + 1, low);
@@ -393,8 +420,8 @@ fn put_record(words: &mut [u64; 6757], at: usize, high: bool, low: bool, first: 
     put_float32(words, at + 3, second);
 }
 
-fn put_soft(words: &mut [u64; 6757], at: usize, s: Soft)
-    requires { ⌜ at + 4 < 6757 ⌝ }
+fn put_soft(words: &mut [u64; WORDS], at: usize, s: Soft)
+    requires { ⌜ at + 4 < 18262 ⌝ }
 {
     match s {
         Soft::Unrecorded => {
@@ -408,17 +435,19 @@ fn put_soft(words: &mut [u64; 6757], at: usize, s: Soft)
     }
 }
 
-fn put_records(words: &mut [u64; 6757], records: Records) {
+fn put_records(words: &mut [u64; WORDS], from: usize, records: Records)
+    requires { ⌜ from + 159 < 18262 ⌝ }
+{
     let mut i = 0;
     while i < 32 {
         let slot = records.slots[i];
         let soft = slot.soft;
-        put_soft(words, 4549 + 5 * i, soft);
+        put_soft(words, from + 5 * i, soft);
         i += 1;
     }
 }
 
-fn put_oscillator(words: &mut [u64; 6757], o: Oscillator) {
+fn put_oscillator(words: &mut [u64; WORDS], o: Oscillator) {
     put_float(words, 2, o.real);
     put_float(words, 3, o.imaginary);
     put_float(words, 4, o.step_real);
@@ -426,15 +455,15 @@ fn put_oscillator(words: &mut [u64; 6757], o: Oscillator) {
     words[6] = o.renormalize as u64;
 }
 
-fn put_three(words: &mut [u64; 6757], at: usize, first: u64, second: u64, third: u64)
-    requires { ⌜ at + 2 < 6757 ⌝ }
+fn put_three(words: &mut [u64; WORDS], at: usize, first: u64, second: u64, third: u64)
+    requires { ⌜ at + 2 < 18262 ⌝ }
 {
     words[at] = first;
     words[at + 1] = second;
     words[at + 2] = third;
 }
 
-fn put_decimator(words: &mut [u64; 6757], d: Decimator) {
+fn put_decimator(words: &mut [u64; WORDS], d: Decimator) {
     let integrators = d.integrators;
     let combs = d.combs;
     let a = integrators.real;
@@ -449,7 +478,7 @@ fn put_decimator(words: &mut [u64; 6757], d: Decimator) {
     put_three(words, 18, y.first, y.second, y.third);
 }
 
-fn put_resampler(words: &mut [u64; 6757], r: Resampler) {
+fn put_resampler(words: &mut [u64; WORDS], r: Resampler) {
     words[21] = r.arm as u64;
     words[22] = r.half as u64;
     put_float(words, 23, r.step);
@@ -458,13 +487,13 @@ fn put_resampler(words: &mut [u64; 6757], r: Resampler) {
     words[26] = r.write as u64;
 }
 
-fn put_keeper(words: &mut [u64; 6757], k: KeeperPlace) {
+fn put_keeper(words: &mut [u64; WORDS], k: KeeperPlace) {
     words[27] = k.head as u64;
     words[28] = k.fill as u64;
     put_float32(words, 29, k.reference);
 }
 
-fn put_clock(words: &mut [u64; 6757], c: ClockPlace) {
+fn put_clock(words: &mut [u64; WORDS], c: ClockPlace) {
     words[30] = c.start as u64;
     words[31] = c.count as u64;
     words[32] = c.position as u64;
@@ -473,107 +502,131 @@ fn put_clock(words: &mut [u64; 6757], c: ClockPlace) {
     put_float32(words, 35, c.rate);
 }
 
-fn put_loop(words: &mut [u64; 6757], l: Loop) {
-    put_float(words, 36, l.phase);
-    put_float(words, 37, l.frequency);
-    words[38] = l.alternation as u64;
-    put_flag(words, 39, l.locked);
-    put_float(words, 40, l.error);
+fn put_loop(words: &mut [u64; WORDS], at: usize, l: Loop)
+    requires { ⌜ at + 4 < 18262 ⌝ }
+{
+    put_float(words, at, l.phase);
+    put_float(words, at + 1, l.frequency);
+    words[at + 2] = l.alternation as u64;
+    put_flag(words, at + 3, l.locked);
+    put_float(words, at + 4, l.error);
 }
 
-fn put_detector(words: &mut [u64; 6757], d: DetectorPlace) {
+fn put_detector(words: &mut [u64; WORDS], at: usize, d: DetectorPlace)
+    requires { ⌜ at + 10 < 18262 ⌝ }
+{
     let previous = d.previous;
     let combined = d.combined;
-    words[41] = d.write as u64;
-    words[42] = d.filled as u64;
-    put_previous(words, 43, previous);
-    put_observation(words, 45, combined);
-    put_three(words, 48, 0, 0, 0);
-    put_float32(words, 51, d.noise);
+    words[at] = d.write as u64;
+    words[at + 1] = d.filled as u64;
+    put_previous(words, at + 2, previous);
+    put_observation(words, at + 4, combined);
+    put_three(words, at + 7, 0, 0, 0);
+    put_float32(words, at + 10, d.noise);
 }
 
-fn put_view(words: &mut [u64; 6757], v: ViewPlace) {
+fn put_carrier(words: &mut [u64; WORDS], at: usize, c: CarrierPlace)
+    requires { ⌜ at + 15 < 18262 ⌝ }
+{
+    put_loop(words, at, c.turn);
+    put_detector(words, at + 5, c.detector);
+}
+
+fn put_view(words: &mut [u64; WORDS], v: ViewPlace) {
     let previous = v.previous;
     put_observation(words, 52, previous);
     words[55] = v.head as u64;
     words[56] = v.count as u64;
 }
 
-fn put_front(words: &mut [u64; 6757], f: FrontPlace) {
+fn put_front(words: &mut [u64; WORDS], f: FrontPlace) {
     put_oscillator(words, f.oscillator);
     put_decimator(words, f.decimator);
     put_resampler(words, f.resampler);
 }
 
-fn put_chain(words: &mut [u64; 6757], c: ChainPlace) {
-    let carrier = c.carrier;
+fn put_chain(words: &mut [u64; WORDS], c: ChainPlace) {
     words[1] = profile_word(c.profile);
     put_keeper(words, c.keeper);
     put_clock(words, c.clock);
-    put_loop(words, carrier.turn);
-    put_detector(words, carrier.detector);
+    put_carrier(words, 36, c.carrier);
     put_view(words, c.view);
     words[57] = c.symbols;
     words[58] = c.locked;
 }
 
 // A plane to its words.
-fn put_plane(words: &mut [u64; 6757], from: usize, plane: &[f32])
-    requires { ⌜ from < 6757 ⌝ }
+fn put_plane(words: &mut [u64; WORDS], from: usize, plane: &[f32])
+    requires { ⌜ from < 18262 ⌝ }
 {
     let mut i = 0;
     while i < plane.len() {
         let at = from + i;
-        if at < 6757 {
+        if at < WORDS {
             words[at] = wide32(pattern32(plane[i]));
         }
         i += 1;
     }
 }
 
-fn put_592(words: &mut [u64; 6757], from: usize, plane: [f32; 592])
-    requires { ⌜ from < 6757 ⌝ }
+fn put_592(words: &mut [u64; WORDS], from: usize, plane: [f32; 592])
+    requires { ⌜ from < 18262 ⌝ }
 {
     put_plane(words, from, &plane);
 }
 
-fn put_64(words: &mut [u64; 6757], from: usize, plane: [f32; 64])
-    requires { ⌜ from < 6757 ⌝ }
+fn put_64(words: &mut [u64; WORDS], from: usize, plane: [f32; 64])
+    requires { ⌜ from < 18262 ⌝ }
 {
     put_plane(words, from, &plane);
 }
 
-fn put_256(words: &mut [u64; 6757], from: usize, plane: [f32; 256])
-    requires { ⌜ from < 6757 ⌝ }
+fn put_256(words: &mut [u64; WORDS], from: usize, plane: [f32; 256])
+    requires { ⌜ from < 18262 ⌝ }
 {
     put_plane(words, from, &plane);
 }
 
-fn put_21(words: &mut [u64; 6757], from: usize, plane: [f32; 21])
-    requires { ⌜ from < 6757 ⌝ }
+fn put_21(words: &mut [u64; WORDS], from: usize, plane: [f32; 21])
+    requires { ⌜ from < 18262 ⌝ }
 {
     put_plane(words, from, &plane);
 }
 
-fn put_1024(words: &mut [u64; 6757], from: usize, plane: [f32; 1024])
-    requires { ⌜ from < 6757 ⌝ }
+fn put_1024(words: &mut [u64; WORDS], from: usize, plane: [f32; 1024])
+    requires { ⌜ from < 18262 ⌝ }
 {
     put_plane(words, from, &plane);
 }
 
-fn put_parents(words: &mut [u64; 6757], parents: &[u8; 2048]) {
+fn put_parents(words: &mut [u64; WORDS], from: usize, parents: &[u8; PARENTS])
+    requires { ⌜ from + 2047 < 18262 ⌝ }
+{
     let mut i = 0;
-    while i < 2048 {
-        words[2501 + i] = wide8(parents[i]);
+    while i < PARENTS {
+        words[from + i] = wide8(parents[i]);
         i += 1;
     }
 }
 
-pub fn encode(r: Receiver, words: &mut [u64; 6757]) {
+pub fn put_second(
+    words: &mut [u64; WORDS],
+    s: Second,
+    memory: &[f32; MEMORY],
+    ancestors: &[u8; PARENTS],
+) {
+    put_flag(words, 6757, s.enabled);
+    put_carrier(words, 6758, s.carrier);
+    put_records(words, 6774, s.records);
+    put_plane(words, 6934, memory);
+    put_parents(words, 16214, ancestors);
+}
+
+pub fn encode(r: Receiver, words: &mut [u64; WORDS]) {
     words[0] = r.total;
     put_front(words, r.front);
     put_chain(words, r.chain);
-    put_records(words, r.records);
+    put_records(words, 4549, r.records);
     let ring_real = r.ring_real;
     put_592(words, 59, ring_real);
     let ring_imaginary = r.ring_imaginary;
@@ -601,5 +654,8 @@ pub fn encode(r: Receiver, words: &mut [u64; 6757]) {
     let view_imaginary = r.view_imaginary;
     put_1024(words, 5733, view_imaginary);
     let parents = r.parents;
-    put_parents(words, &parents);
+    put_parents(words, 2501, &parents);
+    let memory = r.memory;
+    let ancestors = r.ancestors;
+    put_second(words, r.second, &memory, &ancestors);
 }

@@ -30,7 +30,7 @@ module _ (conjugated : Bool) (table xs : List Float) where
   unfolding wholeRunOf
   delivered w h =
       let n = length xs / 2 in
-      let l = chain-left (frontAt conjugated table xs w n .values) (w .lent .state) (w .lent .records) (w .lent .room) h in
+      let l = chain-left (frontAt conjugated table xs w n .values) (w .lent .state) (w .lent .records) (w .lent .room) (w .lent .other) h in
       let v : length (frontAt conjugated table xs w n .values) ≤ 0 + 2 * n = values-most n (record { rung = w .rung; values = [] }) in
       let m = l .most in
       (omega arith, l .symbols)

@@ -9,28 +9,35 @@ use denote.Ref.{now}
 use Rattle.front.specs.Front as front
 use Rattle.front.specs.Admitted as fit
 use Rattle.laws.specs.Lent.{Now, Lends}
+use Rattle.second.specs.Second.{secondOf}
 use Rattle.chain.specs.Chain.{stateOf}
 use Rattle.chain.specs.Rows.{Lent, chainOf}
 use Rattle.chain.specs.Ranges.{Asks}
 use Rattle.chain.specs.RowLaws.{Left}
 use Rattle.run.specs.declared.Running.{Running}
 
--- a front, a chain with what it is lent, and which sample is next
+-- a front, a chain of two streams with what it is lent, and which sample is next
 pub record Whole : Type 0 where
   pub rung : front.Rung
   pub lent : Lent
   pub from : ℕ
 
-abbrev pub wholeNow : Running → List Float → List Float → List Float → List Float → List Float → List Float → List Float → List Float → List Float → List Float → List Float → List ℕ → List Float → List Float → List ℕ → List ℕ → Whole
-wholeNow t rr ri kr ki tr ti wr wi hr hi costs parents vr vi ds rs = record {
+abbrev pub wholeNow : Running → List Float → List Float → List Float → List Float → List Float → List Float → List Float → List Float → List Float → List Float → List Float → List ℕ → List Float → List Float → List Float → List ℕ → List ℕ → List ℕ → List ℕ → List ℕ → Whole
+wholeNow t rr ri kr ki tr ti wr wi hr hi costs parents vr vi memory ancestors ds rs es qs = record {
   rung = record { place = t .front; real = rr; imaginary = ri };
-  lent = record { state = stateOf (t .chain) kr ki tr ti wr wi hr hi costs parents vr vi; records = t .records .slots; room = record { dibits = ds; reliabilities = rs; written = t .written } };
+  lent = record {
+    state = stateOf (t .chain) kr ki tr ti wr wi hr hi costs parents vr vi (secondOf (t .second) memory ancestors);
+    records = t .records .slots;
+    room = record { dibits = ds; reliabilities = rs; written = t .written };
+    other = record { dibits = es; reliabilities = qs; written = t .written };
+  };
   from = t .from;
 }
 
 -- the same by the names of the run's parameters, as it is given and as it is left: each is a type that computes to the clause written out
 module _ (t : Running) (ringReal ringImaginary : Now Float) (keeperReal keeperImaginary clockReal clockImaginary weightReal weightImaginary : Now Float)
-    (channelReal channelImaginary costs : Now Float) (parents : Now ℕ) (viewReal viewImaginary : Now Float) (dibits reliabilities : Now ℕ) where
+    (channelReal channelImaginary costs : Now Float) (parents : Now ℕ) (viewReal viewImaginary memory : Now Float) (ancestors : Now ℕ)
+    (dibits reliabilities others otherReliabilities : Now ℕ) where
   abbrev pub given : (Whole → Type 0) → Type 0
   given P =
       P
@@ -42,10 +49,13 @@ module _ (t : Running) (ringReal ringImaginary : Now Float) (keeperReal keeperIm
       (now channelReal) (now channelImaginary)
       (now costs) (now parents)
       (now viewReal) (now viewImaginary)
-      (now dibits) (now reliabilities))
+      (now memory) (now ancestors)
+      (now dibits) (now reliabilities)
+      (now others) (now otherReliabilities))
 
 module _ (t r : Running) (ringReal ringImaginary : Lends Float) (keeperReal keeperImaginary clockReal clockImaginary weightReal weightImaginary : Lends Float)
-    (channelReal channelImaginary costs : Lends Float) (parents : Lends ℕ) (viewReal viewImaginary : Lends Float) (dibits reliabilities : Lends ℕ) where
+    (channelReal channelImaginary costs : Lends Float) (parents : Lends ℕ) (viewReal viewImaginary memory : Lends Float) (ancestors : Lends ℕ)
+    (dibits reliabilities others otherReliabilities : Lends ℕ) where
   abbrev pub leaves : (Whole → Whole → Type 0) → Type 0
   leaves Q =
       Q
@@ -57,7 +67,9 @@ module _ (t r : Running) (ringReal ringImaginary : Lends Float) (keeperReal keep
       (now (channelReal .entry)) (now (channelImaginary .entry))
       (now (costs .entry)) (now (parents .entry))
       (now (viewReal .entry)) (now (viewImaginary .entry))
-      (now (dibits .entry)) (now (reliabilities .entry)))
+      (now (memory .entry)) (now (ancestors .entry))
+      (now (dibits .entry)) (now (reliabilities .entry))
+      (now (others .entry)) (now (otherReliabilities .entry)))
       (wholeNow r
       (now (ringReal .exit)) (now (ringImaginary .exit))
       (now (keeperReal .exit)) (now (keeperImaginary .exit))
@@ -66,7 +78,9 @@ module _ (t r : Running) (ringReal ringImaginary : Lends Float) (keeperReal keep
       (now (channelReal .exit)) (now (channelImaginary .exit))
       (now (costs .exit)) (now (parents .exit))
       (now (viewReal .exit)) (now (viewImaginary .exit))
-      (now (dibits .exit)) (now (reliabilities .exit)))
+      (now (memory .exit)) (now (ancestors .exit))
+      (now (dibits .exit)) (now (reliabilities .exit))
+      (now (others .exit)) (now (otherReliabilities .exit)))
 
 module _ (conjugated : Bool) (table xs : List Float) (w : Whole) where
   -- the front after n samples, and its values
@@ -75,7 +89,7 @@ module _ (conjugated : Bool) (table xs : List Float) (w : Whole) where
 
   -- the chain after their values
   abbrev pub lentAt : ℕ → Lent
-  lentAt n = chainOf (frontAt n .values) (w .lent .state) (w .lent .records) (w .lent .room)
+  lentAt n = chainOf (frontAt n .values) (w .lent .state) (w .lent .records) (w .lent .room) (w .lent .other)
 
   unfoldable pub wholeRunOf : Whole
   wholeRunOf = record { rung = frontAt (length xs / 2) .rung; lent = lentAt (length xs / 2); from = length xs / 2 }
@@ -86,13 +100,13 @@ module _ (conjugated : Bool) (table xs : List Float) (w : Whole) where
     pub next : fit.Next (v .from) (w .rung .place) (v .rung .place)
     pub rung : v .rung ≡ frontAt (v .from) .rung
     pub lent : v .lent ≡ lentAt (v .from)
-    pub left : Left (2 * v .from) (w .lent .state) (w .lent .room) (v .lent)
+    pub left : Left (2 * v .from) (w .lent .state) (w .lent .room) (w .lent .other) (v .lent)
 
 -- what a run asks
-pub record ReadyRun (table xs : List Float) (w : Whole) : Type 0 where
+pub record ReadyRun (both : Bool) (table xs : List Float) (w : Whole) : Type 0 where
   pub start : w .from ≡ 0
   pub ready : fit.Admitted (w .rung .place)
   pub numbers : fit.Numbers xs
   pub table-in : 32 * w .rung .place .resampler .arm ≤ length table
   pub index-in : w .rung .place .resampler .index + length xs / 2 ≤ 2 ^ 52
-  pub asks : Asks (2 * (length xs / 2)) (w .lent)
+  pub asks : Asks both (2 * (length xs / 2)) (w .lent)

@@ -13,18 +13,22 @@ use front::FrontPlace;
 use front::ROW;
 use peak::VALUES;
 use resampler::pass::PLACES;
+use second::Second;
 use signal::POINTS;
 
-// What moves from row to row: the places, the sample that is next, and how many dibits are written.
+// What moves from row to row: the places, the sample that is next, and how many dibits are written of each
+// stream.
 pub struct Running {
     pub front: FrontPlace,
     pub chain: ChainPlace,
     pub records: Records,
+    pub second: Second,
     pub from: usize,
     pub written: usize,
 }
 
-// Runs over all samples of a block from the first one on. The row that ends them goes to the chain by a
+// Runs over all samples of a block from the first one on. The second stream's dibits and reliabilities are
+// written where both are asked for; where it is not enabled its memory may be empty. The row that ends them goes to the chain by a
 // call of its own: a function that is called twice stays out of the loop over the samples, which then
 // has the processor's registers for itself.
 pub fn run(
@@ -46,18 +50,23 @@ pub fn run(
     parents: &mut [u8; PARENTS],
     view_real: &mut [f32; POINTS],
     view_imaginary: &mut [f32; POINTS],
+    memory: &mut [f32],
+    ancestors: &mut [u8; PARENTS],
     dibits: &mut [u8],
     reliabilities: &mut [u8],
+    others: &mut [u8],
+    other_reliabilities: &mut [u8],
+    both: bool,
 ) -> Running
     requires { ⌜ given first
         «ring_real» «ring_imaginary» «keeper_real» «keeper_imaginary» «clock_real» «clock_imaginary»
         «weight_real» «weight_imaginary» «channel_real» «channel_imaginary» costs parents
-        «view_real» «view_imaginary» dibits reliabilities
-        (ReadyRun (now table) (now samples)) ⌝ }
+        «view_real» «view_imaginary» memory ancestors dibits reliabilities others «other_reliabilities»
+        (ReadyRun both (now table) (now samples)) ⌝ }
     ensures { λ r. ⌜ leaves first r
         «ring_real» «ring_imaginary» «keeper_real» «keeper_imaginary» «clock_real» «clock_imaginary»
         «weight_real» «weight_imaginary» «channel_real» «channel_imaginary» costs parents
-        «view_real» «view_imaginary» dibits reliabilities
+        «view_real» «view_imaginary» memory ancestors dibits reliabilities others «other_reliabilities»
         (λ b a. (a ≡ wholeRunOf conjugated (now (table .entry)) (now (samples .entry)) b)
         × Going conjugated (now (table .entry)) (now (samples .entry)) b a) ⌝ }
 {
@@ -83,10 +92,12 @@ pub fn run(
         let next = f.place;
         let link = t.chain;
         let records = t.records;
+        let second = t.second;
         if n <= at {
             let c = chain::chain(
                 link,
                 records,
+                second,
                 &row_real,
                 &row_imaginary,
                 f.made,
@@ -102,16 +113,23 @@ pub fn run(
                 &mut *parents,
                 &mut *view_real,
                 &mut *view_imaginary,
+                &mut *memory,
+                &mut *ancestors,
                 &mut *dibits,
                 &mut *reliabilities,
+                &mut *others,
+                &mut *other_reliabilities,
+                both,
                 t.written,
             );
             let next_link = c.place;
             let next_records = c.records;
+            let next_second = c.second;
             return Running {
                 front: next,
                 chain: next_link,
                 records: next_records,
+                second: next_second,
                 from: at,
                 written: c.written,
             };
@@ -119,6 +137,7 @@ pub fn run(
         let c = chain::chain(
             link,
             records,
+            second,
             &row_real,
             &row_imaginary,
             f.made,
@@ -134,16 +153,23 @@ pub fn run(
             &mut *parents,
             &mut *view_real,
             &mut *view_imaginary,
+            &mut *memory,
+            &mut *ancestors,
             &mut *dibits,
             &mut *reliabilities,
+            &mut *others,
+            &mut *other_reliabilities,
+            both,
             t.written,
         );
         let next_link = c.place;
         let next_records = c.records;
+        let next_second = c.second;
         t = Running {
             front: next,
             chain: next_link,
             records: next_records,
+            second: next_second,
             from: at,
             written: c.written,
         };

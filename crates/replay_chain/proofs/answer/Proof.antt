@@ -6,7 +6,6 @@ use Rattle.sequence.specs.Sequence.{freshReal}
 use borrow.Author.Tests.{not-false}
 use Rattle.clock.specs.AdmittedLaws.{admitted-facts}
 use borrow.Author.Needs.{needs}
-use borrow.Author.Needs.{needs}
 use Rattle.replay_chain.proofs.answer.Statement.{statement}
 use Rattle.replay_chain.proofs.answer.Tie as tie
 
@@ -100,6 +99,12 @@ slice-aggregate-fill-11 c = search needs
 fill-requires-11 : tie.Need-fill-requires-11
 fill-requires-11 c κs = search needs
 
+read-making-requires : tie.Need-read-making-requires
+read-making-requires c κs = search needs
+
+made-second-requires : tie.Need-made-second-requires
+made-second-requires c κs = search needs
+
 is-admitted-requires : tie.Need-is-admitted-requires
 is-admitted-requires c κs = search needs
 
@@ -115,9 +120,10 @@ returns c = search needs
 run-requires : tie.Need-run-requires
 unfolding freshReal
 run-requires c κs =
-    let test = c .before .before .before .before .before .before .before .before .before .before .before .before .before in
+    let test = c .before .before .before .before .before .before .before .before .before .before .before .before .before .before .before in
     let at-is-admitted = test .before in
-    let at-made-place = at-is-admitted .before .before .before .before .before .before .before .before .before .before .before .before in
+    let at-made-second = at-is-admitted .before in
+    let at-made-place = at-made-second .before .before .before .before .before .before .before .before .before .before .before .before .before .before .before in
     let at-fill-parents = at-made-place .before .before .before in
     let at-fill9 = at-fill-parents .before .before .before in
     let at-fill8 = at-fill9 .before .before .before in
@@ -148,6 +154,7 @@ run-requires c κs =
         };
         view = record { head = q .view-head; count = q .view-count };
       };
+      second = λ on. at-made-second .made-second .ensures .0;
       delivery = record { locked = q .locked };
     }
 
@@ -188,6 +195,8 @@ answer-spec =
     fill-requires-10
     slice-aggregate-fill-11
     fill-requires-11
+    read-making-requires
+    made-second-requires
     is-admitted-requires
     slice-aggregate-write-all
     write-all-requires

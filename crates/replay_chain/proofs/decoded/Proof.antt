@@ -67,11 +67,24 @@ word-requires-13 c κs =
 least-requires : tie.Need-least-requires
 least-requires c κs = search needs
 
+high-requires-2 : tie.Need-high-requires-2
+high-requires-2 c κs = search needs
+
+is-set-requires : tie.Need-is-set-requires
+is-set-requires c κs = search needs
+
+high-requires-3 : tie.Need-high-requires-3
+high-requires-3 c κs = search needs
+
+is-set-requires-2 : tie.Need-is-set-requires-2
+is-set-requires-2 c κs = search needs
+
 returns : tie.Need-returns
 returns c =
-    let at-carrier-loop = c .before .before .before .before .before .before .before in
+    let at-least = c .before .before .before .before in
+    let at-carrier-loop = at-least .before .before .before .before .before .before .before in
     let at-keeper = at-carrier-loop .before .before .before .before .before .before .before in
-    record { keeper-head = at-keeper .keeper .ensures .0; keeper-fill = at-keeper .keeper .ensures .1; alternation = at-carrier-loop .carrier-loop .ensures; view-head = search needs; view-count = search needs; locked = omega (arith, c .least .ensures) }
+    record { keeper-head = at-keeper .keeper .ensures .0; keeper-fill = at-keeper .keeper .ensures .1; alternation = at-carrier-loop .carrier-loop .ensures; view-head = search needs; view-count = search needs; locked = omega (arith, at-least .least .ensures) }
 
 pub decoded-spec : {M : Type 1} → statement M
 decoded-spec =
@@ -96,4 +109,8 @@ decoded-spec =
     profile-requires
     word-requires-13
     least-requires
+    high-requires-2
+    is-set-requires
+    high-requires-3
+    is-set-requires-2
     returns)

@@ -2,21 +2,24 @@
 use native.Mathlib.Omega.{arith}
 use Rattle.chain.specs.Chain.{stateOf}
 use Rattle.chain.specs.Ranges.{Ranged}
+use Rattle.second.specs.Second.{secondOf}
 use borrow.Author.Needs.{needs}
 use Rattle.replay_chain.proofs.run.Statement.{statement}
 use Rattle.replay_chain.proofs.run.Tie as tie
 
 abbrev Inv-loop : tie.InvT-loop
-Inv-loop rows keeper-real₀ keeper-imaginary₀ clock-real₀ clock-imaginary₀ weight-real₀ weight-imaginary₀ channel-real₀ channel-imaginary₀ costs₀ parents₀ view-real₀
-    view-imaginary₀ row-real₀ row-imaginary₀ p₀ records₀ left₀ keeper-real keeper-imaginary clock-real clock-imaginary weight-real weight-imaginary channel-real
-    channel-imaginary costs parents view-real view-imaginary row-real row-imaginary p records left =
+Inv-loop rows has both keeper-real₀ keeper-imaginary₀ clock-real₀ clock-imaginary₀ weight-real₀ weight-imaginary₀ channel-real₀ channel-imaginary₀ costs₀
+    parents₀ view-real₀ view-imaginary₀ memory₀ ancestors₀ row-real₀ row-imaginary₀ p₀ records₀ second₀ left₀ keeper-real keeper-imaginary clock-real
+    clock-imaginary weight-real weight-imaginary channel-real channel-imaginary costs parents view-real view-imaginary memory ancestors row-real row-imaginary p
+    records second left =
     Ranged (stateOf p keeper-real keeper-imaginary clock-real clock-imaginary weight-real weight-imaginary channel-real channel-imaginary costs parents view-real
-    view-imaginary)
+    view-imaginary (secondOf second memory ancestors))
 
 abbrev μ-loop : tie.MeasureT-loop
-μ-loop rows keeper-real₀ keeper-imaginary₀ clock-real₀ clock-imaginary₀ weight-real₀ weight-imaginary₀ channel-real₀ channel-imaginary₀ costs₀ parents₀ view-real₀
-    view-imaginary₀ row-real₀ row-imaginary₀ p₀ records₀ left₀ keeper-real keeper-imaginary clock-real clock-imaginary weight-real weight-imaginary channel-real
-    channel-imaginary costs parents view-real view-imaginary row-real row-imaginary p records left =
+μ-loop rows has both keeper-real₀ keeper-imaginary₀ clock-real₀ clock-imaginary₀ weight-real₀ weight-imaginary₀ channel-real₀ channel-imaginary₀ costs₀ parents₀
+    view-real₀ view-imaginary₀ memory₀ ancestors₀ row-real₀ row-imaginary₀ p₀ records₀ second₀ left₀ keeper-real keeper-imaginary clock-real clock-imaginary
+    weight-real weight-imaginary channel-real channel-imaginary costs parents view-real view-imaginary memory ancestors row-real row-imaginary p records second
+    left =
     left
 
 loop-holds : tie.Need-loop-holds Inv-loop μ-loop
@@ -44,7 +47,7 @@ read-row-requires c κs =
 
 row-requires : tie.Need-row-requires Inv-loop μ-loop
 row-requires c κs =
-    let test = c .before .before .before .before .before .before .before .before .before .before .before .before .before .before in
+    let test = c .before .before .before .before .before .before .before .before .before .before .before .before .before .before .before .before in
     let at-least2 = test .before .before .before .before .before in
     let at-least = at-least2 .before .before in
     let turn = at-least .before .before .before .before in
@@ -52,16 +55,16 @@ row-requires c κs =
 
 sub-left : tie.Need-sub-left Inv-loop μ-loop
 sub-left c =
-    let at-loop-test = c .before .before .before .before .before .before .before .before .before .before .before .before .before .before .before .before .before .before .before .before .before .before .before .before .before .before .before in
+    let at-loop-test = c .before .before .before .before .before .before .before .before .before .before .before .before .before .before .before .before .before .before .before .before .before .before .before .before .before .before .before .before .before .before in
     omega (arith, at-loop-test .loop-test)
 
 loop-less : tie.Need-loop-less Inv-loop μ-loop
 loop-less c =
-    let at-loop-test = c .before .before .before .before .before .before .before .before .before .before .before .before .before .before .before .before .before .before .before .before .before .before .before .before .before .before .before in
+    let at-loop-test = c .before .before .before .before .before .before .before .before .before .before .before .before .before .before .before .before .before .before .before .before .before .before .before .before .before .before .before .before .before .before in
     omega (arith, at-loop-test .loop-test)
 
 loop-again : tie.Need-loop-again Inv-loop μ-loop
-loop-again c = c .before .before .row .ensures
+loop-again c = c .before .before .before .row .ensures
 
 returns : tie.Need-returns Inv-loop μ-loop
 returns c = search needs

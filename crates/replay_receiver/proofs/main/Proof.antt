@@ -8,15 +8,18 @@ use Rattle.replay_receiver.proofs.main.Statement.{statement}
 use Rattle.replay_receiver.proofs.main.Tie as tie
 
 abbrev Inv-loop : tie.InvT-loop
-Inv-loop words₀ table₀ input₀ samples₀ dibits₀ reliabilities₀ left₀ words table input samples dibits reliabilities left =
+Inv-loop words₀ table₀ input₀ samples₀ dibits₀ reliabilities₀ others₀ other-reliabilities₀ left₀ words table input samples dibits reliabilities others other-reliabilities left =
     (left ≤ 1000000000) × (length table ≡ 18440) × (length input ≡ 524320) × (length samples ≡ 131080) × (length dibits ≡ 524320) × (length reliabilities ≡ 524320)
+    × (length others ≡ 524320) × (length other-reliabilities ≡ 524320)
 
 abbrev μ-loop : tie.MeasureT-loop
-μ-loop words₀ table₀ input₀ samples₀ dibits₀ reliabilities₀ left₀ words table input samples dibits reliabilities left =
+μ-loop words₀ table₀ input₀ samples₀ dibits₀ reliabilities₀ others₀ other-reliabilities₀ left₀ words table input samples dibits reliabilities others other-reliabilities left =
     left
 
 loop-holds : tie.Need-loop-holds Inv-loop μ-loop
-loop-holds c = (search needs, length-replicate {A = Float} 18440 (ofBits binary32 0), length-replicate {A = ℕ} 524320 0, length-replicate {A = Float} 131080 (ofBits binary32 0), length-replicate {A = ℕ} 524320 0, length-replicate {A = ℕ} 524320 0)
+loop-holds c =
+    let bytes = length-replicate {A = ℕ} 524320 0 in
+    (search needs, length-replicate {A = Float} 18440 (ofBits binary32 0), bytes, length-replicate {A = Float} 131080 (ofBits binary32 0), bytes, bytes, bytes, bytes)
 
 slice-aggregate-answered : tie.Need-slice-aggregate-answered Inv-loop μ-loop
 slice-aggregate-answered c = search needs
@@ -33,6 +36,12 @@ slice-aggregate-answered-4 c = search needs
 slice-aggregate-answered-5 : tie.Need-slice-aggregate-answered-5 Inv-loop μ-loop
 slice-aggregate-answered-5 c = search needs
 
+slice-aggregate-answered-6 : tie.Need-slice-aggregate-answered-6 Inv-loop μ-loop
+slice-aggregate-answered-6 c = search needs
+
+slice-aggregate-answered-7 : tie.Need-slice-aggregate-answered-7 Inv-loop μ-loop
+slice-aggregate-answered-7 c = search needs
+
 answered-requires : tie.Need-answered-requires Inv-loop μ-loop
 answered-requires c κs = search needs
 
@@ -43,7 +52,7 @@ loop-less : tie.Need-loop-less Inv-loop μ-loop
 loop-less c = search needs
 
 loop-again : tie.Need-loop-again Inv-loop μ-loop
-loop-again c = (search needs, search needs, search needs, search needs, search needs, search needs)
+loop-again c = (search needs, search needs, search needs, search needs, search needs, search needs, search needs, search needs)
 
 loop-less-2 : tie.Need-loop-less-2 Inv-loop μ-loop
 loop-less-2 c = search needs
@@ -66,6 +75,8 @@ main-spec =
     slice-aggregate-answered-3
     slice-aggregate-answered-4
     slice-aggregate-answered-5
+    slice-aggregate-answered-6
+    slice-aggregate-answered-7
     answered-requires
     sub-left
     loop-less

@@ -5,10 +5,10 @@ use Rattle.replay_states.proofs.put_parents.Statement.{statement}
 use Rattle.replay_states.proofs.put_parents.Tie as tie
 
 abbrev Inv-loop : tie.InvT-loop
-Inv-loop words₀ parents i₀ words i = i ≤ 2048
+Inv-loop words₀ from parents i₀ words i = i ≤ 2048
 
 abbrev μ-loop : tie.MeasureT-loop
-μ-loop words₀ parents i₀ words i = 2048 - i
+μ-loop words₀ from parents i₀ words i = 2048 - i
 
 loop-holds : tie.Need-loop-holds Inv-loop μ-loop
 loop-holds c = search needs

@@ -5,10 +5,10 @@ use Rattle.replay_states.proofs.put_records.Statement.{statement}
 use Rattle.replay_states.proofs.put_records.Tie as tie
 
 abbrev Inv-loop : tie.InvT-loop
-Inv-loop words₀ records i₀ words i = i ≤ 32
+Inv-loop words₀ from records i₀ words i = i ≤ 32
 
 abbrev μ-loop : tie.MeasureT-loop
-μ-loop words₀ records i₀ words i = 32 - i
+μ-loop words₀ from records i₀ words i = 32 - i
 
 loop-holds : tie.Need-loop-holds Inv-loop μ-loop
 loop-holds c = search needs

@@ -5,10 +5,10 @@ use Rattle.replay_states.proofs.records_at.Statement.{statement}
 use Rattle.replay_states.proofs.records_at.Tie as tie
 
 abbrev Inv-loop : tie.InvT-loop
-Inv-loop words records₀ i₀ records i = i ≤ 32
+Inv-loop words from records₀ i₀ records i = i ≤ 32
 
 abbrev μ-loop : tie.MeasureT-loop
-μ-loop words records₀ i₀ records i = 32 - i
+μ-loop words from records₀ i₀ records i = 32 - i
 
 loop-holds : tie.Need-loop-holds Inv-loop μ-loop
 loop-holds c = search needs
@@ -22,8 +22,8 @@ add-soft-at c = search needs
 soft-at-requires : tie.Need-soft-at-requires Inv-loop μ-loop
 soft-at-requires c κs = search needs
 
-mul-t9 : tie.Need-mul-t9 Inv-loop μ-loop
-mul-t9 c = search needs
+mul-t10 : tie.Need-mul-t10 Inv-loop μ-loop
+mul-t10 c = search needs
 
 element-set-from-records : tie.Need-element-set-from-records Inv-loop μ-loop
 element-set-from-records c = search needs
@@ -50,7 +50,7 @@ records-at-spec =
     mul-soft-at
     add-soft-at
     soft-at-requires
-    mul-t9
+    mul-t10
     element-set-from-records
     add-i
     loop-less

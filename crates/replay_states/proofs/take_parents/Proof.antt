@@ -5,10 +5,10 @@ use Rattle.replay_states.proofs.take_parents.Statement.{statement}
 use Rattle.replay_states.proofs.take_parents.Tie as tie
 
 abbrev Inv-loop : tie.InvT-loop
-Inv-loop words parents₀ i₀ parents i = i ≤ 2048
+Inv-loop words from parents₀ i₀ parents i = i ≤ 2048
 
 abbrev μ-loop : tie.MeasureT-loop
-μ-loop words parents₀ i₀ parents i = 2048 - i
+μ-loop words from parents₀ i₀ parents i = 2048 - i
 
 loop-holds : tie.Need-loop-holds Inv-loop μ-loop
 loop-holds c = search needs

@@ -1,4 +1,4 @@
--- `is_admitted` meets its contract: it is the conjunction of the totals' test, the front's, the chain's and the parents'.
+-- `is_admitted` meets its contract: it is the conjunction of the totals' test, the front's, the chain's, the parents' and the second tracker's.
 use Rattle.checks.specs.AdmittedTests.{state-is}
 use borrow.Author.Needs.{needs}
 use Rattle.checks.proofs.admitted.is_admitted.Statement.{statement}
@@ -16,8 +16,13 @@ chain-fits-requires c κs = search needs
 are-states-requires : tie.Need-are-states-requires
 are-states-requires c κs = search needs
 
+is-admitted-requires-2 : tie.Need-is-admitted-requires-2
+is-admitted-requires-2 c κs = search needs
+
 returns : tie.Need-returns
-returns c = state-is _ _ _ _ _ _ _ _ (c .before .before .before .totals-fit .ensures) (c .before .before .is-admitted .ensures) (c .before .chain-fits .ensures) (c .are-states .ensures)
+returns c =
+    let front = c .before .before .before in
+    state-is _ _ _ _ _ _ _ _ _ _ _ (front .before .totals-fit .ensures) (front .is-admitted .ensures) (c .before .before .chain-fits .ensures) (c .before .are-states .ensures) (c .is-admitted2 .ensures)
 
 pub is-admitted-spec : {M : Type 1} → statement M
 is-admitted-spec =
@@ -27,4 +32,5 @@ is-admitted-spec =
     is-admitted-requires
     chain-fits-requires
     are-states-requires
+    is-admitted-requires-2
     returns)

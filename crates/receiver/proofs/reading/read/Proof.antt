@@ -10,7 +10,7 @@ is-admitted-requires c κs = search needs
 read-requires : tie.Need-read-requires
 read-requires c κs =
     let test = c .before .before .before .before in
-    let entry = test .before .before .before .before .before .before .before .before .before in
+    let entry = test .before .before .before .before .before .before .before .before .before .before .before .before in
     view-ranges (entry .args .r) _ (test .before .is-admitted .ensures) (test .if1 .taken)
 
 same-length : tie.Need-same-length

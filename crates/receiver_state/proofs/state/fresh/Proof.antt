@@ -1,4 +1,4 @@
--- `fresh` meets its contract: every place and plane is its own crate's fresh one.
+-- `fresh` meets its contract: every place and plane is its own crate's fresh one, and the second tracker is not enabled.
 use mir.Facts.{toZ-ofZ}
 use lib.Ieee.{ofBits}
 use Rattle.receiver_state.specs.State.{freshReceiver}
@@ -18,11 +18,16 @@ fresh-real-requires c κs = search needs
 fresh-channels-requires : tie.Need-fresh-channels-requires
 fresh-channels-requires c κs = search needs
 
+zero-second-requires : tie.Need-zero-second-requires
+zero-second-requires c κs = search needs
+
 returns : tie.Need-returns
 unfolding freshReceiver ofBits
 returns c =
-    let entry = c .before .before .before .before in
-    rw (c .fresh-channels .ensures, c .before .fresh-real .ensures, c .before .before .fresh-records .ensures, c .before .before .before .fresh .ensures, toZ-ofZ (entry .fits .profile))
+    let channels = c .before in
+    let records = channels .before .before in
+    let entry = records .before .before in
+    rw (c .zero-second .ensures, channels .fresh-channels .ensures, channels .before .fresh-real .ensures, records .fresh-records .ensures, records .before .fresh .ensures, toZ-ofZ (entry .fits .profile))
 
 pub fresh-spec : {M : Type 1} → statement M
 fresh-spec =
@@ -32,4 +37,5 @@ fresh-spec =
     fresh-records-requires
     fresh-real-requires
     fresh-channels-requires
+    zero-second-requires
     returns)

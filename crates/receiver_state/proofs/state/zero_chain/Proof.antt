@@ -6,6 +6,9 @@ use Rattle.receiver_state.proofs.state.zero_chain.Statement.{statement}
 use Rattle.receiver_state.proofs.state.zero_chain.Tie as tie
 use Rattle.signal.proofs.fresh.Reads as fresh-reads′
 
+zero-carrier-requires : tie.Need-zero-carrier-requires
+zero-carrier-requires c κs = search needs
+
 fresh-requires : tie.Need-fresh-requires
 fresh-requires c κs = search needs
 
@@ -17,4 +20,4 @@ unfolding zeroChain ofBits
 returns c = cc
 
 pub zero-chain-spec : {M : Type 1} → statement M
-zero-chain-spec = tie.close (tie.spec fresh-requires fresh-requires-2 returns)
+zero-chain-spec = tie.close (tie.spec zero-carrier-requires fresh-requires fresh-requires-2 returns)

@@ -5,10 +5,10 @@ use Rattle.replay_receiver.proofs.desk.take_words.Statement.{statement}
 use Rattle.replay_receiver.proofs.desk.take_words.Tie as tie
 
 abbrev Inv-loop : tie.InvT-loop
-Inv-loop input words₀ i₀ words i = i ≤ 6757
+Inv-loop input given words₀ i₀ words i = i ≤ 18262
 
 abbrev μ-loop : tie.MeasureT-loop
-μ-loop input words₀ i₀ words i = 6757 - i
+μ-loop input given words₀ i₀ words i = 18262 - i
 
 loop-holds : tie.Need-loop-holds Inv-loop μ-loop
 loop-holds c = search needs
@@ -43,6 +43,15 @@ element-write-words-3 c = search needs
 element-write-words-4 : tie.Need-element-write-words-4 Inv-loop μ-loop
 element-write-words-4 c = search needs
 
+element-write-words-5 : tie.Need-element-write-words-5 Inv-loop μ-loop
+element-write-words-5 c = search needs
+
+element-write-words-6 : tie.Need-element-write-words-6 Inv-loop μ-loop
+element-write-words-6 c = search needs
+
+element-write-words-7 : tie.Need-element-write-words-7 Inv-loop μ-loop
+element-write-words-7 c = search needs
+
 returns : tie.Need-returns Inv-loop μ-loop
 returns c = search needs
 
@@ -63,4 +72,7 @@ take-words-spec =
     element-write-words-2
     element-write-words-3
     element-write-words-4
+    element-write-words-5
+    element-write-words-6
+    element-write-words-7
     returns)

@@ -5,10 +5,10 @@ use Rattle.replay_receiver.proofs.desk.words_digest.Statement.{statemen
 use Rattle.replay_receiver.proofs.desk.words_digest.Tie as tie
 
 abbrev Inv-loop : tie.InvT-loop
-Inv-loop words h₀ i₀ h i = i ≤ 6757
+Inv-loop words from end h₀ i₀ h i = from ≤ i
 
 abbrev μ-loop : tie.MeasureT-loop
-μ-loop words h₀ i₀ h i = 6757 - i
+μ-loop words from end h₀ i₀ h i = end - i
 
 loop-holds : tie.Need-loop-holds Inv-loop μ-loop
 loop-holds c = search needs

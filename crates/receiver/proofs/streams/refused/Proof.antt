@@ -1,7 +1,7 @@
 -- `refused` meets its contract: the state as given, and nothing counted.
 use borrow.Author.Needs.{needs}
-use Rattle.receiver.proofs.block.refused.Statement.{statement}
-use Rattle.receiver.proofs.block.refused.Tie as tie
+use Rattle.receiver.proofs.streams.refused.Statement.{statement}
+use Rattle.receiver.proofs.streams.refused.Tie as tie
 
 zero-snapshot-requires : tie.Need-zero-snapshot-requires
 zero-snapshot-requires c κs = search needs
