@@ -19,7 +19,8 @@ use receiver_state::state::snapshot_of;
 use run::Running;
 use run::run;
 
-// How many dibits were written for each stream, and how many samples have a part above 1 in size.
+// How many dibits were written for each stream, and how many samples have a part at an end of what a
+// 16-bit converter gives, or beyond it.
 pub struct Block {
     pub verdict: Verdict,
     pub count: usize,
@@ -29,8 +30,8 @@ pub struct Block {
 }
 
 // Takes a block for one stream. Where the second is enabled it runs too, and a dibit is given only where
-// both have one. Where it is not, its memory is copied once, from the state given to the state returned;
-// the state goes to the other call by a copy of its own, so that this one needs none.
+// both have one. Where it is not, its memory is not lent, and is read only when the state returned is
+// made, after the run.
 pub fn take(
     r: Receiver,
     table: &[f32],
