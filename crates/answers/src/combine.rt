@@ -11,7 +11,7 @@ use numbers::compare::is_finite32;
 
 // The observation weighted by the main tap, so that its size follows the channel's power, and the
 // same over that power.
-#[derive(Drop)]
+#[derive(Clone, Copy)]
 pub struct Seen {
     pub combined: Observation,
     pub equalized: Observation,

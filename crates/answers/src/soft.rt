@@ -9,19 +9,19 @@ use routines::hypotenuse::hypotenuse;
 use whole::to_u8;
 
 // No record, or two sign bits and two reliabilities, the dibit's higher bit first.
-#[derive(Drop)]
+#[derive(Clone, Copy)]
 pub enum Soft {
     Unrecorded,
     Recorded(bool, bool, f32, f32),
 }
 
-#[derive(Drop)]
+#[derive(Clone, Copy)]
 pub struct Slot {
     pub soft: Soft,
 }
 
 // The records of 32 steps.
-#[derive(Drop)]
+#[derive(Clone, Copy)]
 pub struct Records {
     pub slots: [Slot; STEPS],
 }

@@ -7,20 +7,20 @@ use super::soft::{Soft, agreed};
 use channels::STATES;
 
 // The symbol that the walk before ended at.
-#[derive(Drop)]
+#[derive(Clone, Copy)]
 pub enum Previous {
     Unknown,
     Symbol(usize),
 }
 
 // A dibit, and the reliabilities of its higher and lower bit.
-#[derive(Drop)]
+#[derive(Clone, Copy)]
 pub enum Answer {
     Silent,
     Dibit(u8, u8, u8),
 }
 
-#[derive(Drop)]
+#[derive(Clone, Copy)]
 pub struct Walked {
     pub previous: Previous,
     pub answer: Answer,

@@ -9,7 +9,7 @@ ghost use Rattle.arrivals.specs.Lends.{Lays};
 use channels::STATES;
 
 // A branch to a state: what it costs so far, the prior that it comes from, and what that predicts.
-#[derive(Drop)]
+#[derive(Clone, Copy)]
 pub struct Branch {
     pub cost: f32,
     pub prior: u32,

@@ -19,7 +19,7 @@ const PI: f64 = 3.141592653589793;
 
 // Phase and frequency (radians a symbol), the alternation of the constellation, whether the loop is
 // locked, and the smoothed size of its error.
-#[derive(Drop)]
+#[derive(Clone, Copy)]
 pub struct Loop {
     pub phase: f64,
     pub frequency: f64,
@@ -28,13 +28,13 @@ pub struct Loop {
     pub error: f64,
 }
 
-#[derive(Drop)]
+#[derive(Clone, Copy)]
 pub struct CarrierPlace {
     pub turn: Loop,
     pub detector: DetectorPlace,
 }
 
-#[derive(Drop)]
+#[derive(Clone, Copy)]
 pub struct Carried {
     pub place: CarrierPlace,
     pub answer: Answer,

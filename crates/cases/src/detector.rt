@@ -9,7 +9,7 @@ use replay_detector::stored;
 use sequence::step::DetectorPlace;
 
 // Silent steps before the first dibit, dibits of 0 with [0,0], and every other answer.
-#[derive(Drop)]
+#[derive(Clone, Copy)]
 struct Tally {
     silent: u64,
     zeros: u64,

@@ -3,7 +3,7 @@ use super::say::{number, text};
 use checks::refusal::number as number_of;
 
 // The refusal's number, or 0, and the dimensions in the state that came back.
-#[derive(Drop)]
+#[derive(Clone, Copy)]
 struct Answer {
     refusal: u32,
     decimation: usize,

@@ -16,7 +16,7 @@ use second::Second;
 use signal::POINTS;
 
 // The first stream's place and soft records, the second's, and the counts with how many dibits are written.
-#[derive(Drop)]
+#[derive(Clone, Copy)]
 pub struct LaterPlace {
     pub decided: Decided,
     pub second: Second,

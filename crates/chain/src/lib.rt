@@ -29,7 +29,7 @@ use signal::{POINTS, ViewPlace};
 
 // The places of the chain's parts, the profile, the dibits delivered since setup, and those of them
 // that were delivered under lock.
-#[derive(Drop)]
+#[derive(Clone, Copy)]
 pub struct ChainPlace {
     pub keeper: KeeperPlace,
     pub clock: ClockPlace,
@@ -41,7 +41,7 @@ pub struct ChainPlace {
 }
 
 // The place, the soft records, the second stream, and how many dibits are written of each.
-#[derive(Drop)]
+#[derive(Clone, Copy)]
 pub struct Chained {
     pub place: ChainPlace,
     pub records: Records,

@@ -8,7 +8,7 @@ use super::CHANNELS;
 use complex::Complex32;
 
 // The taps of one state: for the newest symbol and for the three before it.
-#[derive(Drop)]
+#[derive(Clone, Copy)]
 pub struct Taps {
     pub main: Complex32,
     pub one: Complex32,

@@ -11,7 +11,7 @@ use samples::measured;
 use second::Second;
 
 // Overload: 0 where the block is refused.
-#[derive(Drop)]
+#[derive(Clone, Copy)]
 pub struct Checked {
     pub verdict: Verdict,
     pub overload: u32,

@@ -18,7 +18,7 @@ use tick::ticked;
 // Where the clock stands: the ring's oldest sample and how many it holds, where the next window
 // begins before the phase moves it, whether the first window has been reached, the phase in arms
 // (32 to a sample) and its drift a symbol.
-#[derive(Drop)]
+#[derive(Clone, Copy)]
 pub struct ClockPlace {
     pub start: usize,
     pub count: usize,
@@ -29,14 +29,14 @@ pub struct ClockPlace {
 }
 
 // No symbol, or a symbol: the arm it is matched with, and the ring's place where its windows begin.
-#[derive(Drop)]
+#[derive(Clone, Copy)]
 pub enum Due {
     NoSymbol,
     Symbol(usize, usize),
 }
 
 // The place after a sample, and what is due.
-#[derive(Drop)]
+#[derive(Clone, Copy)]
 pub struct Stepped {
     pub place: ClockPlace,
     pub due: Due,

@@ -9,7 +9,7 @@ ghost use Rattle.clock.specs.Ranges.{PhaseFits, Ceiling};
 
 // A phase in 0..=32 or NaN, its arm, and whether the window stands a sample back (0), where it stood
 // (1), or a sample on (2).
-#[derive(Drop)]
+#[derive(Clone, Copy)]
 pub struct Arm {
     pub phase: f32,
     pub arm: usize,

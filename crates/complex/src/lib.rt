@@ -6,21 +6,21 @@ ghost use Rattle.complex.specs.Complex.{zero_pair, sum_of, difference_of, scaled
 use numbers::compare::is_finite32;
 use numbers::narrow::narrow;
 
-#[derive(Drop)]
+#[derive(Clone, Copy)]
 pub struct Complex32 {
     pub real: f32,
     pub imaginary: f32,
 }
 
 // The same before it is narrowed.
-#[derive(Drop)]
+#[derive(Clone, Copy)]
 pub struct Complex64 {
     pub real: f64,
     pub imaginary: f64,
 }
 
 // A corrected symbol, or none where the signal was not reliable.
-#[derive(Drop)]
+#[derive(Clone, Copy)]
 pub enum Observation {
     Absent,
     Present(Complex32),

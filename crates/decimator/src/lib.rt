@@ -21,7 +21,7 @@ mod quantiser;
 const MOST: usize = 78;
 
 // The integrators of one part.
-#[derive(Drop)]
+#[derive(Clone, Copy)]
 pub struct Sums {
     pub first: u64,
     pub second: u64,
@@ -29,27 +29,27 @@ pub struct Sums {
 }
 
 // What the combs of one part met at the last output.
-#[derive(Drop)]
+#[derive(Clone, Copy)]
 pub struct Delays {
     pub first: u64,
     pub second: u64,
     pub third: u64,
 }
 
-#[derive(Drop)]
+#[derive(Clone, Copy)]
 pub struct Integrators {
     pub real: Sums,
     pub imaginary: Sums,
 }
 
-#[derive(Drop)]
+#[derive(Clone, Copy)]
 pub struct Combs {
     pub real: Delays,
     pub imaginary: Delays,
 }
 
 // Both parts of a sample or of a sum, as whole numbers.
-#[derive(Drop)]
+#[derive(Clone, Copy)]
 pub struct Counts {
     pub real: i64,
     pub imaginary: i64,
@@ -57,7 +57,7 @@ pub struct Counts {
 
 // One output for `decimation` samples, 1 to 78; `counter` of them, fewer than that, have come since the
 // last output.
-#[derive(Drop)]
+#[derive(Clone, Copy)]
 pub struct Decimator {
     pub decimation: usize,
     pub counter: usize,
@@ -66,49 +66,49 @@ pub struct Decimator {
 }
 
 // What three combs make of a sum, and their delays after it.
-#[derive(Drop)]
+#[derive(Clone, Copy)]
 pub struct Difference {
     pub delays: Delays,
     pub value: i64,
 }
 
 // An output before it is scaled: both combs' sums at every d-th sample, and nothing between.
-#[derive(Drop)]
+#[derive(Clone, Copy)]
 pub enum RawOutput {
     Silent,
     Sum(Counts),
 }
 
 // Both combs' sums at a d-th sample, and the decimator after it.
-#[derive(Drop)]
+#[derive(Clone, Copy)]
 pub struct Release {
     pub decimator: Decimator,
     pub sum: Counts,
 }
 
 // The decimator after a sample, and its output before it is scaled.
-#[derive(Drop)]
+#[derive(Clone, Copy)]
 pub struct Advance {
     pub decimator: Decimator,
     pub raw: RawOutput,
 }
 
 // A decimated value, or none yet.
-#[derive(Drop)]
+#[derive(Clone, Copy)]
 pub enum Output {
     Nothing,
     Value(Complex32),
 }
 
 // A decimated value, and the decimator after it.
-#[derive(Drop)]
+#[derive(Clone, Copy)]
 pub struct Decimated {
     pub decimator: Decimator,
     pub value: Complex32,
 }
 
 // The decimator after a sample, and its output.
-#[derive(Drop)]
+#[derive(Clone, Copy)]
 pub struct Step {
     pub decimator: Decimator,
     pub output: Output,

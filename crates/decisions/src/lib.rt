@@ -22,14 +22,14 @@ use signal::{POINTS, ViewPlace};
 pub const SYMBOLS: usize = 256;
 
 // The places of carrier and view.
-#[derive(Drop)]
+#[derive(Clone, Copy)]
 pub struct DecisionsPlace {
     pub carrier: CarrierPlace,
     pub view: ViewPlace,
 }
 
 // The places and the soft records.
-#[derive(Drop)]
+#[derive(Clone, Copy)]
 pub struct Decided {
     pub place: DecisionsPlace,
     pub records: Records,

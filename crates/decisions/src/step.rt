@@ -13,7 +13,7 @@ use complex::Complex32;
 use signal::{POINTS, push};
 
 // The places after a symbol, the symbol's soft record, and what the detector answered to it.
-#[derive(Drop)]
+#[derive(Clone, Copy)]
 pub struct Stepped {
     pub place: DecisionsPlace,
     pub soft: Soft,

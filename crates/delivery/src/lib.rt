@@ -12,7 +12,7 @@ use answer_row::{BYTES, FLAGS, answer_at, is_locked_at, is_told_at};
 use step::{paired, step};
 
 // The profile, the dibits delivered since setup, and those of them that were delivered under lock.
-#[derive(Drop)]
+#[derive(Clone, Copy)]
 pub struct DeliveryPlace {
     pub profile: i32,
     pub symbols: u64,
@@ -20,7 +20,7 @@ pub struct DeliveryPlace {
 }
 
 // The place, and how many dibits are written.
-#[derive(Drop)]
+#[derive(Clone, Copy)]
 pub struct Delivered {
     pub place: DeliveryPlace,
     pub written: usize,

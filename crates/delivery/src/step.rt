@@ -9,7 +9,7 @@ use answers::walk::Answer;
 use labels::{counted, is_rearranged, labelled};
 
 // The place after an answer, and the answer as the profile labels it.
-#[derive(Drop)]
+#[derive(Clone, Copy)]
 pub struct Stepped {
     pub place: DeliveryPlace,
     pub answer: Answer,

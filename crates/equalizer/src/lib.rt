@@ -22,7 +22,7 @@ const ADAPTATION: f32 = 0.0;
 
 // What one pass over the taps adds up: the weighted window, the weighted derivatives, and the
 // window's power.
-#[derive(Drop)]
+#[derive(Clone, Copy)]
 pub struct Sums {
     pub value: Complex32,
     pub derivative: Complex32,
@@ -30,7 +30,7 @@ pub struct Sums {
 }
 
 // The equalized symbol, and how far its instant lies from the middle of the eye.
-#[derive(Drop)]
+#[derive(Clone, Copy)]
 pub struct Equalized {
     pub value: Complex32,
     pub timing: f32,

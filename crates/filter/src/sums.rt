@@ -6,14 +6,14 @@ use super::{ARM, HALF};
 use complex::Complex32;
 
 // The running sums of one window.
-#[derive(Drop)]
+#[derive(Clone, Copy)]
 pub struct Sums {
     pub value: Complex32,
     pub derivative: Complex32,
 }
 
 // Those of four neighbours.
-#[derive(Drop)]
+#[derive(Clone, Copy)]
 pub struct Four {
     pub first: Sums,
     pub second: Sums,

@@ -20,7 +20,7 @@ pub const ROW: usize = 256;
 const ROOM: usize = 254;
 
 // Where the front stands between two samples; the ring's two planes are lent beside it.
-#[derive(Drop)]
+#[derive(Clone, Copy)]
 pub struct FrontPlace {
     pub oscillator: Oscillator,
     pub decimator: Decimator,
@@ -28,7 +28,7 @@ pub struct FrontPlace {
 }
 
 // The front after a call, how many samples it used, and how many values it made of them.
-#[derive(Drop)]
+#[derive(Clone, Copy)]
 pub struct Fronted {
     pub place: FrontPlace,
     pub used: usize,
@@ -36,14 +36,14 @@ pub struct Fronted {
 }
 
 // What moves with every sample.
-#[derive(Drop)]
+#[derive(Clone, Copy)]
 pub struct Gathering {
     pub oscillator: Oscillator,
     pub integrators: Integrators,
 }
 
 // After a run of samples: how many they were, and what the decimator gave for the last.
-#[derive(Drop)]
+#[derive(Clone, Copy)]
 pub struct Drawn {
     pub oscillator: Oscillator,
     pub decimator: Decimator,
@@ -52,7 +52,7 @@ pub struct Drawn {
 }
 
 // A resampler, and how many values its row holds.
-#[derive(Drop)]
+#[derive(Clone, Copy)]
 pub struct Offering {
     pub resampler: Resampler,
     pub made: usize,

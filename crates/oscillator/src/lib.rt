@@ -10,7 +10,7 @@ use routines::circle::{cosine, sine};
 
 // Where the oscillator stands, the step it is multiplied by at each turn, and how many turns ago it was
 // brought to size 1: 0 to 4,095.
-#[derive(Drop)]
+#[derive(Clone, Copy)]
 pub struct Oscillator {
     pub real: f64,
     pub imaginary: f64,
@@ -20,7 +20,7 @@ pub struct Oscillator {
 }
 
 // After a sample: the oscillator, and the sample mixed.
-#[derive(Drop)]
+#[derive(Clone, Copy)]
 pub struct Step {
     pub oscillator: Oscillator,
     pub value: Complex32,

@@ -16,7 +16,7 @@ pub const VALUES: usize = 64;
 const COLUMNS: usize = 16;
 
 // Where the next value goes, below 64; how many are in, at most 64; and the reference.
-#[derive(Drop)]
+#[derive(Clone, Copy)]
 pub struct KeeperPlace {
     pub head: usize,
     pub fill: usize,
@@ -24,13 +24,13 @@ pub struct KeeperPlace {
 }
 
 // Still filling, or the oldest value at its gain and whether it is reliable.
-#[derive(Drop)]
+#[derive(Clone, Copy)]
 pub enum Level {
     Filling,
     At(Complex32, bool),
 }
 
-#[derive(Drop)]
+#[derive(Clone, Copy)]
 pub struct Kept {
     pub place: KeeperPlace,
     pub level: Level,

@@ -11,7 +11,7 @@ use receiver_state::state::{Receiver, snapshot_of};
 use recording::text::Totals;
 
 // The verdict on a block, its overload, the receiver after it, and where its lines end.
-#[derive(Drop)]
+#[derive(Clone, Copy)]
 pub struct Taken {
     pub verdict: Verdict,
     pub overload: u32,

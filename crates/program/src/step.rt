@@ -13,7 +13,7 @@ use receiver_state::state::Receiver;
 use recording::decode::{count, float};
 
 // What the program waits for.
-#[derive(Drop)]
+#[derive(Clone, Copy)]
 pub enum Stage {
     // the count of settings
     Head,
@@ -30,7 +30,7 @@ pub enum Stage {
 }
 
 // The first `end` bytes of the text that a step was lent are to be written.
-#[derive(Drop)]
+#[derive(Clone, Copy)]
 pub struct Program {
     pub stage: Stage,
     pub receiver: Receiver,

@@ -16,7 +16,7 @@ const STDOUT: i32 = 1;
 
 // How many bytes came, and the program after the step over them. The count is handed back so that the
 // contract can say over which bytes the step was taken.
-#[derive(Drop)]
+#[derive(Clone, Copy)]
 struct Feeding {
     got: usize,
     program: Program,

@@ -13,7 +13,7 @@ use run::{Running, run};
 
 // How many dibits were written for each stream, and how many samples have a part at an end of what a
 // 16-bit converter gives, or beyond it.
-#[derive(Drop)]
+#[derive(Clone, Copy)]
 pub struct Block {
     pub verdict: Verdict,
     pub count: usize,

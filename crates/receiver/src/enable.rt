@@ -7,7 +7,7 @@ use checks::admitted::is_admitted;
 use checks::refusal::Verdict;
 use receiver_state::state::Receiver;
 
-#[derive(Drop)]
+#[derive(Clone, Copy)]
 pub struct Enabled {
     pub verdict: Verdict,
     pub receiver: Receiver,

@@ -6,7 +6,7 @@ use checks::admitted::is_admitted;
 use checks::refusal::Verdict;
 use receiver_state::state::Receiver;
 
-#[derive(Drop)]
+#[derive(Clone, Copy)]
 pub struct Points {
     pub verdict: Verdict,
     pub count: usize,

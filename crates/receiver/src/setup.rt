@@ -9,7 +9,7 @@ use front::FrontPlace;
 use receiver_state::state::Receiver;
 use resampler::dimensions::{Dimensions, sized};
 
-#[derive(Drop)]
+#[derive(Clone, Copy)]
 pub struct Setup {
     pub verdict: Verdict,
     pub receiver: Receiver,

@@ -25,7 +25,7 @@ use signal::POINTS;
 // clock's, the equalizer's weights, the detector's channels, costs and parents, the view's ring. The
 // second tracker has its memory and its parents, the ancestors; while it is not enabled nothing of it is
 // looked at, and all of it is handed back as given.
-#[derive(Drop)]
+#[derive(Clone, Copy)]
 pub struct Receiver {
     pub total: u64,
     pub front: FrontPlace,
@@ -52,7 +52,7 @@ pub struct Receiver {
 
 // Dibits delivered since setup and those of them under lock, the carrier's smoothed error, its
 // frequency in hertz, and 1 if it is locked now.
-#[derive(Drop)]
+#[derive(Clone, Copy)]
 pub struct Snapshot {
     pub symbols: u64,
     pub locked_symbols: u64,

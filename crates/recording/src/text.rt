@@ -5,7 +5,7 @@ ghost use Rattle.recording.specs.Text.{written_of, put, decimal_of, ended_of, li
 
 // What the closing lines tell: dibits delivered, those of them under lock, whether the carrier is
 // locked now, and samples that were overloaded.
-#[derive(Drop)]
+#[derive(Clone, Copy)]
 pub struct Totals {
     pub symbols: u64,
     pub locked: u64,

@@ -20,14 +20,14 @@ use taps::both_tables;
 pub const ROW: usize = 256;
 
 // The places of peak keeper and clock.
-#[derive(Drop)]
+#[derive(Clone, Copy)]
 pub struct RecoveryPlace {
     pub keeper: KeeperPlace,
     pub clock: ClockPlace,
 }
 
 // The places, and how many symbols stand in the row.
-#[derive(Drop)]
+#[derive(Clone, Copy)]
 pub struct Recovered {
     pub place: RecoveryPlace,
     pub count: usize,

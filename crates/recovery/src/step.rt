@@ -13,14 +13,14 @@ use filter::{RING, TAPS, WINDOWS};
 use peak::{Level, VALUES, keep};
 
 // No symbol, or a symbol and whether it is reliable.
-#[derive(Drop)]
+#[derive(Clone, Copy)]
 pub enum Found {
     Nothing,
     Here(Complex32, bool),
 }
 
 // The places after a value, and its symbol, where there is one.
-#[derive(Drop)]
+#[derive(Clone, Copy)]
 pub struct Stepped {
     pub place: RecoveryPlace,
     pub found: Found,

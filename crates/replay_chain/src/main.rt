@@ -408,7 +408,7 @@ fn run(
     }
 }
 
-#[derive(Drop)]
+#[derive(Clone, Copy)]
 struct Request {
     seed: u64,
     start: u64,

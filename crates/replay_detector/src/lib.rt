@@ -13,7 +13,7 @@ use replay::{mixed, mixed_bytes, mixed_flag, mixed_float32, mixed_plane, next, p
 use sequence::step::{Detected, DetectorPlace};
 
 // A run of steps: what is asked, its state's seed and start, and how many steps follow.
-#[derive(Drop)]
+#[derive(Clone, Copy)]
 pub struct Request {
     pub asked: u64,
     pub seed: u64,
@@ -42,7 +42,7 @@ pub fn input(a: u64) -> Complex32 {
 
 // The kinds of floats and of costs, place, fill, previous symbol (0, or 1 and the symbol) and the kind
 // of the second tracker's inverses.
-#[derive(Drop)]
+#[derive(Clone, Copy)]
 pub struct Start {
     pub floats: u64,
     pub costs: u64,
@@ -53,19 +53,19 @@ pub struct Start {
 }
 
 // A made value, and the seed after it.
-#[derive(Drop)]
+#[derive(Clone, Copy)]
 pub struct MadeRecords {
     pub records: Records,
     pub seed: u64,
 }
 
-#[derive(Drop)]
+#[derive(Clone, Copy)]
 pub struct MadePoint {
     pub point: Observation,
     pub seed: u64,
 }
 
-#[derive(Drop)]
+#[derive(Clone, Copy)]
 pub struct MadePlace {
     pub place: DetectorPlace,
     pub seed: u64,

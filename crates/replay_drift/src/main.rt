@@ -17,7 +17,7 @@ use replay::{fill, mixed_plane, next, print_line, word};
 // A run's head: seven words.
 const HEAD: usize = 56;
 
-#[derive(Drop)]
+#[derive(Clone, Copy)]
 struct Request {
     asked: u64,
     seed: u64,

@@ -20,7 +20,7 @@ use resampler::pass::{PLACES, Resampler};
 // Samples in a block.
 const BLOCK: usize = 512;
 
-#[derive(Drop)]
+#[derive(Clone, Copy)]
 struct Request {
     rate: f64,
     offset: f64,
@@ -33,7 +33,7 @@ struct Request {
 }
 
 // A place, and the digest of the values that came before it.
-#[derive(Drop)]
+#[derive(Clone, Copy)]
 struct Told {
     place: FrontPlace,
     digest: u64,

@@ -5,13 +5,13 @@ ghost use Rattle.std.specs.Prelude.{◌≤◌};
 use numbers::{bits, compare, narrow};
 use replay::{mixed, mixed_flag, mixed_float, mixed_float32, print_line, word};
 
-#[derive(Drop)]
+#[derive(Clone, Copy)]
 struct Range {
     low: f64,
     high: f64,
 }
 
-#[derive(Drop)]
+#[derive(Clone, Copy)]
 struct Range32 {
     low: f32,
     high: f32,

@@ -12,7 +12,7 @@ use replay::{mixed, mixed_float, mixed_float32, print_line, word};
 const RECORD: usize = 48;
 
 // The oscillator after a sample, and the digest so far.
-#[derive(Drop)]
+#[derive(Clone, Copy)]
 struct Turn {
     oscillator: Oscillator,
     digest: u64,

@@ -16,7 +16,7 @@ const OUT: i32 = 1;
 // The words of the first stream's state; the second's follow.
 const FIRST: usize = 6757;
 
-#[derive(Drop)]
+#[derive(Clone, Copy)]
 pub struct Entry {
     pub kind: u64,
     pub first: u64,
@@ -233,7 +233,7 @@ fn snapshot_digest(digest: u64, s: Snapshot) -> u64 {
 }
 
 // What a block answers besides what it was lent.
-#[derive(Drop)]
+#[derive(Clone, Copy)]
 struct BlockAnswer {
     refusal: u32,
     count: u64,

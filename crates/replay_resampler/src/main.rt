@@ -16,7 +16,7 @@ use resampler::pass::{PLACES, Passed, Resampler};
 // The most values that come in over a state's life: 2^52.
 const MOST: u64 = 4503599627370496;
 
-#[derive(Drop)]
+#[derive(Clone, Copy)]
 struct Request {
     asked: u64,
     rate: f64,

@@ -15,7 +15,7 @@ use second::{MEMORY, Second};
 
 // A seed; a detector's start; enabled, alternation and locked, a byte each; the carrier's phase, frequency
 // and error.
-#[derive(Drop)]
+#[derive(Clone, Copy)]
 pub struct Making {
     pub seed: u64,
     pub start: u64,

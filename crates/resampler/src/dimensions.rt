@@ -8,7 +8,7 @@ use super::pass::Resampler;
 use whole::round;
 
 // What setup fixes for a rate.
-#[derive(Drop)]
+#[derive(Clone, Copy)]
 pub struct Dimensions {
     // 1 to 78
     pub decimation: usize,

@@ -17,7 +17,7 @@ pub const PLACES: usize = 592;
 // 2 to the power 52: so many values come in at most.
 const LIMIT: u64 = 4503599627370496;
 
-#[derive(Drop)]
+#[derive(Clone, Copy)]
 pub struct Resampler {
     // taps an arm: 14 to 576
     pub arm: usize,
@@ -34,14 +34,14 @@ pub struct Resampler {
 }
 
 // A position among the values that came in, and the arm that serves it.
-#[derive(Drop)]
+#[derive(Clone, Copy)]
 pub struct Place {
     pub position: u64,
     pub phase: usize,
 }
 
 // The outputs so far, and where the next one lies.
-#[derive(Drop)]
+#[derive(Clone, Copy)]
 pub struct Delivery {
     pub count: usize,
     pub first: Complex32,
@@ -50,7 +50,7 @@ pub struct Delivery {
 }
 
 // The resampler after a value, and the outputs that the value makes due: the first `count` of the two.
-#[derive(Drop)]
+#[derive(Clone, Copy)]
 pub struct Passed {
     pub resampler: Resampler,
     pub count: usize,

@@ -12,7 +12,7 @@ use std::num::wrapping_sub_u64;
 
 // What a root is taken of. The number is its own root (a NaN, a zero, the infinity), it has none, or
 // it is digits * 2 ^ power of the format's smallest values, and above zero.
-#[derive(Drop)]
+#[derive(Clone, Copy)]
 pub enum Radicand {
     Itself,
     Negative,

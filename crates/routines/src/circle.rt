@@ -41,14 +41,14 @@ const C5: f64 = 2.087572321298175e-9;
 
 const C6: f64 = 1.1359647557788195e-11;
 
-#[derive(Drop)]
+#[derive(Clone, Copy)]
 pub struct SineCosine {
     pub sine: f64,
     pub cosine: f64,
 }
 
 // What is left of an angle after whole quarter turns, rest + tail, and their number modulo 4.
-#[derive(Drop)]
+#[derive(Clone, Copy)]
 struct Remainder {
     quarter: u64,
     rest: f64,

@@ -17,7 +17,7 @@ use signal::POINTS;
 
 // What moves from row to row: the places, the sample that is next, and how many dibits are written of each
 // stream.
-#[derive(Drop)]
+#[derive(Clone, Copy)]
 pub struct Running {
     pub front: FrontPlace,
     pub chain: ChainPlace,

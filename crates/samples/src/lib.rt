@@ -6,7 +6,7 @@ ghost use Rattle.samples.specs.Inside.{is_inside, all_inside};
 use numbers::compare::is_finite32;
 
 // Overload: the number of samples with a part at an end or beyond it, where all parts are finite.
-#[derive(Drop)]
+#[derive(Clone, Copy)]
 pub struct Level {
     pub finite: bool,
     pub overload: u32,

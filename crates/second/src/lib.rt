@@ -35,7 +35,7 @@ pub const SYMBOLS: usize = 256;
 
 // Whether there is a second stream, its carrier's place, and its soft records. While it is not enabled,
 // neither carrier nor records is looked at.
-#[derive(Drop)]
+#[derive(Clone, Copy)]
 pub struct Second {
     pub enabled: bool,
     pub carrier: CarrierPlace,

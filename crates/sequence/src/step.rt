@@ -17,7 +17,7 @@ use trellis::step::advance;
 // What the detector keeps beside its planes: the row for the next step's parents and record, how
 // many steps are held, the symbol that the last walk ended at, the last combined observation, and
 // the smoothed power of the residual.
-#[derive(Drop)]
+#[derive(Clone, Copy)]
 pub struct DetectorPlace {
     pub write: usize,
     pub filled: usize,
@@ -28,7 +28,7 @@ pub struct DetectorPlace {
 
 // What a step gives: the dibit if there is one, its soft record, what the view sees, and the phase
 // and the power of the error for the carrier.
-#[derive(Drop)]
+#[derive(Clone, Copy)]
 pub struct Detected {
     pub place: DetectorPlace,
     pub answer: Answer,

@@ -28,7 +28,7 @@ const IDEAL: f64 = 0.7071067811865476;
 
 // What the view keeps beside its ring: the last observation, where the next point goes, and how
 // many points are held, at most 1,024.
-#[derive(Drop)]
+#[derive(Clone, Copy)]
 pub struct ViewPlace {
     pub previous: Observation,
     pub head: usize,
@@ -36,7 +36,7 @@ pub struct ViewPlace {
 }
 
 // How many points were written, and their error in percent of the ideal amplitude.
-#[derive(Drop)]
+#[derive(Clone, Copy)]
 pub struct Reading {
     pub count: usize,
     pub error: f64,

@@ -50,7 +50,7 @@ fn least(a: u32, b: u32) -> u32
 
 // A sum of powers, and the least span of the real and of the imaginary parts on the way. The two are
 // apart, as the parts are, so that they go side by side.
-#[derive(Drop)]
+#[derive(Clone, Copy)]
 pub struct Power {
     pub sum: f64,
     pub across: u32,

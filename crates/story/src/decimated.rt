@@ -7,7 +7,7 @@ use decimator::{Decimator, Output};
 use numbers::bits::pattern32;
 
 // How many decimated values came, and how many of them are unlike.
-#[derive(Drop)]
+#[derive(Clone, Copy)]
 pub struct Compared {
     pub made: u64,
     pub unlike: u64,

@@ -8,7 +8,7 @@ use replay::mixed_plane;
 const OUT: i32 = 1;
 
 // A receiver after a block, and the digest of the last 64 values from its front.
-#[derive(Drop)]
+#[derive(Clone, Copy)]
 struct Taken {
     receiver: Receiver,
     values: u64,

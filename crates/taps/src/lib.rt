@@ -4,7 +4,7 @@ ghost use Rattle.taps.specs.Taps.{both_tables};
 
 mod table;
 
-#[derive(Drop)]
+#[derive(Clone, Copy)]
 pub struct Tables {
     pub taps: [f32; 1025],
     pub derivatives: [f32; 1025],

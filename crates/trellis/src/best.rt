@@ -8,7 +8,7 @@ ghost use Rattle.trellis.specs.Layout.{nearer_of, Plain};
 use channels::STATES;
 
 // A state and what it costs.
-#[derive(Drop)]
+#[derive(Clone, Copy)]
 pub struct Least {
     pub state: usize,
     pub cost: f32,

@@ -51,7 +51,7 @@ fn shifted_down(s: bool, d: u64, shift: u64) -> u64
 
 // A float by its digits below the point: its sign, its digits and how far to the right of the
 // highest they reach; or that there are none, as for a NaN and an infinity.
-#[derive(Drop)]
+#[derive(Clone, Copy)]
 pub enum Fraction {
     Nothing,
     Parts(bool, u64, u64),
