@@ -1,0 +1,9 @@
+-- `put` meets its contract: two flags, and three bytes where there is a dibit.
+use Rattle.answer_row.specs.Laws.{put_silent, put_dibit}
+use Rattle.answer_row.proofs.put.Goals as goal
+
+pub returns-in_default : goal.returns-in_default
+returns-in_default c = put_silent _ _ _ _ c.enum_told-1.given.1
+
+pub returns : goal.returns
+returns c = put_dibit _ _ _ _ _ _ _ c.answer-1.given.1

@@ -1,0 +1,16 @@
+-- `clock::tick::ticked` meets its contract: the ring has room, since its count is below 256; the sample goes to its end.
+use Rattle.std.proofs.Common.{refl, arith}
+use Rattle.clock.specs.Laws.{assertion_holds, taken_hot, taken_first, ticked_is, after_of}
+use Rattle.clock.proofs.tick.ticked.Goals as goal
+
+pub overflow_add-at : goal.overflow_add-at
+overflow_add-at c = let h = assertion_holds _ c.requires in let s = c.requires.start in omega arith
+
+pub overflow_add-taken : goal.overflow_add-taken
+overflow_add-taken c = let h = assertion_holds _ c.requires in omega arith
+
+pub timed-requires : goal.timed-requires
+timed-requires c = record { fact_1 = (λ w. taken_hot _ c.requires w); fact_2 = (λ w. taken_first _ c.requires w) }
+
+pub returns : goal.returns
+returns c = record { same = ticked_is _ _ _ _ _ _ refl c.timed.ensures; kept = after_of _ _ c.requires c.timed.ensures }

@@ -1,0 +1,57 @@
+-- `decide` meets its contract: after i turns the first i symbols of the row are decided.
+use Prim.Native.Nat.{◌-◌}
+use native.Mathlib.Omega.{arith}
+use Rattle.decisions.specs.Laws.{row_start, row_step, next_asks, row_end}
+use borrow.Author.Rules.{rules}
+use Rattle.decisions.proofs.decide.Goals as goal
+
+pub loop-i-init : goal.loop-i-init
+loop-i-init c = (omega arith, row_start _ _ _ _)
+
+pub offset_bounds-symbol_real-i : goal.offset_bounds-symbol_real-i
+offset_bounds-symbol_real-i c =
+    let given = c.requires in
+    search (rules, c.loop-i-test, given.1)
+
+pub bounds-symbol_real-i : goal.bounds-symbol_real-i
+bounds-symbol_real-i c =
+    let given = c.requires in
+    search (rules, c.loop-i-test, given.1)
+
+pub offset_bounds-symbol_imaginary-i : goal.offset_bounds-symbol_imaginary-i
+offset_bounds-symbol_imaginary-i c =
+    let given = c.requires in
+    search (rules, c.loop-i-test, given.1)
+
+pub bounds-symbol_imaginary-i : goal.bounds-symbol_imaginary-i
+bounds-symbol_imaginary-i c =
+    let given = c.requires in
+    search (rules, c.loop-i-test, given.1)
+
+pub bounds-reliable-i : goal.bounds-reliable-i
+bounds-reliable-i c =
+    let given = c.requires in
+    search (rules, c.loop-i-test, given.1)
+
+pub link-t-requires : goal.link-t-requires
+link-t-requires c =
+    let given = c.requires in
+    record { given_row = next_asks _ _ _ _ _ _ given.0 c.loop-i.invariant.1; at_bound = omega (arith, c.loop-i-test, given.1) }
+
+pub overflow_add-i : goal.overflow_add-i
+overflow_add-i c =
+    let given = c.requires in
+    record { fits = omega (arith, c.loop-i-test, given.1) }
+
+pub loop-i-smaller : goal.loop-i-smaller
+loop-i-smaller c =
+    omega (arith, c.loop-i-test)
+
+pub loop-i-preserved : goal.loop-i-preserved
+loop-i-preserved c =
+    (omega (arith, c.loop-i-test), row_step _ _ _ _ _ _ _ c.link-t.ensures c.loop-i.invariant.1)
+
+pub returns : goal.returns
+returns c =
+    let given = c.requires in
+    row_end _ _ _ _ _ _ _ given.0 c.loop-i.invariant.1 c.loop-i.invariant.0 (omega (arith, c.loop-i-test))

@@ -1,0 +1,18 @@
+-- `learn` meets its contract: each room from those before it, and what the lanes learn in its place.
+use Rattle.drift_tracker.specs.Laws.{taps_learnt, drift_learnt, inverse_learnt}
+use Rattle.drift_tracker.proofs.follow.learn.Goals as goal
+
+pub settle_group-requires : goal.settle_group-requires
+settle_group-requires c =
+    let given = c.requires in
+    (given.0, given.4)
+
+pub returns : goal.returns
+returns c =
+    let symbols = c.regress.ensures in
+    let missed = c.miss.ensures in
+    let weights = c.weigh.ensures in (
+      taps_learnt _ _ _ _ _ _ _ _ _ _ _ _ symbols missed weights.0 weights.1.0 weights.1.1 _ c.pull.ensures,
+      drift_learnt _ _ _ _ _ _ _ _ _ _ _ _ symbols missed weights.0 weights.1.0 weights.1.1 _ c.pull-2.ensures,
+      inverse_learnt _ _ _ _ _ _ _ _ _ _ _ _ symbols missed weights.0 weights.1.0 weights.1.1 _ _ c.settle_group.ensures,
+    )

@@ -1,0 +1,12 @@
+-- `parent` meets its contract.
+use mathlib.Core.Path.{refl}
+use native.Mathlib.Omega.{arith}
+use Rattle.drift_tracker.specs.Drift.{parent_of}
+use Rattle.drift_tracker.proofs.lanes.parent.Goals as goal
+
+pub overflow_cast-result : goal.overflow_cast-result
+overflow_cast-result c = omega (arith, c.requires.1.below _ c.requires.0)
+
+pub returns : goal.returns
+unfolding parent_of
+returns c = (refl, c.requires.1.below _ c.requires.0)

@@ -1,0 +1,23 @@
+-- `split` meets its contract: after k turns the first k points are apart.
+use mathlib.Core.Path.{refl}
+use Prim.Native.Nat.{◌-◌}
+use lib.Ieee.{nan}
+use Rattle.laws.specs.Places.{fill_start, fill_step, fill_end}
+use borrow.Author.Rules.{rules}
+use Rattle.drift_tracker.proofs.lanes.split.Goals as goal
+
+pub loop-k-init : goal.loop-k-init
+loop-k-init c = (search rules, fill_start _ _, fill_start _ _)
+
+pub loop-k-preserved : goal.loop-k-preserved
+loop-k-preserved c =
+    let apart = c.loop-k.invariant in
+    (search rules, fill_step _ _ _ _ _ refl apart.1, fill_step _ _ _ _ _ refl apart.2)
+
+pub returns : goal.returns
+returns c =
+    let apart = c.loop-k.invariant in
+    λ i. record {
+      real = fill_end _ _ 256 _ _ nan apart.1 (search rules) (search rules) c.requires.0 i;
+      imaginary = fill_end _ _ 256 _ _ nan apart.2 (search rules) (search rules) c.requires.1 i;
+    }

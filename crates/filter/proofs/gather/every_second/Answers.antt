@@ -1,0 +1,18 @@
+-- `filter::gather::every_second` meets its contract: the invariant is the first j samples filled.
+use Prim.Native.Nat.{◌-◌}
+use mathlib.Core.Path.{refl}
+use lib.Ieee.{nan}
+use Rattle.laws.specs.Places.{fill_start, fill_step, fill_end}
+use Rattle.filter.specs.Fast.{every_second_of}
+use borrow.Author.Rules.{rules}
+use Rattle.filter.proofs.gather.every_second.Goals as goal
+
+pub loop-j-init : goal.loop-j-init
+loop-j-init c = (search rules, search rules, search rules, fill_start _ _)
+
+pub loop-j-preserved : goal.loop-j-preserved
+loop-j-preserved c = (search rules, search rules, search rules, fill_step _ _ _ _ _ refl c.loop-j.invariant.3)
+
+pub returns : goal.returns
+unfolding every_second_of
+returns c = fill_end _ _ _ _ _ nan c.loop-j.invariant.3 (search rules) (search rules) (search rules)

@@ -1,0 +1,10 @@
+-- `filter::group` meets its contract: the two ways, by whether it is the last group, are the definition's.
+use Rattle.filter.specs.Laws.{group_low, group_high}
+use borrow.Author.Rules.{rules}
+use Rattle.filter.proofs.group.Goals as goal
+
+pub returns-then-g-lt5 : goal.returns-then-g-lt5
+returns-then-g-lt5 c = record { is = group_low _ (search rules); low = search rules }
+
+pub returns-else-g-lt5 : goal.returns-else-g-lt5
+returns-else-g-lt5 c = record { is = group_high _ (search rules); low = search rules }

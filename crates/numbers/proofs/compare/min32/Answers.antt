@@ -1,0 +1,26 @@
+-- `compare::min32` meets its contract: each way out is one case of `min_of`.
+use Rattle.std.proofs.Common.{true, false, sym, ◌∙◌}
+use Rattle.numbers.specs.Laws.{min_1, min_2, min_3, min_4, min_5}
+use Rattle.numbers.proofs.compare.min32.Goals as goal
+
+pub returns-then-x : goal.returns-then-x
+returns-then-x c = min_1 c.args.x c.args.y c.if-x.true
+
+pub returns-then-y : goal.returns-then-y
+returns-then-y c = min_2 c.args.x c.args.y c.if-x.false c.if-y.true
+
+pub returns-then-x-y : goal.returns-then-x-y
+returns-then-x-y c = let a = c.args in min_3 a.x a.y c.if-x.false c.if-y.false c.if-x-y.true
+
+pub returns-then-y-x : goal.returns-then-y-x
+returns-then-y-x c = let a = c.args in min_4 a.x a.y c.if-x.false c.if-y.false c.if-x-y.false c.if-y-x.true
+
+pub returns-then-is_negative32 : goal.returns-then-is_negative32
+returns-then-is_negative32 c =
+    let a = c.args in
+    min_5 a.x a.y c.if-x.false c.if-y.false c.if-x-y.false c.if-y-x.false true (sym c.if-is_negative32.true ∙ c.is_negative32.ensures)
+
+pub returns-else-is_negative32 : goal.returns-else-is_negative32
+returns-else-is_negative32 c =
+    let a = c.args in
+    min_5 a.x a.y c.if-x.false c.if-y.false c.if-x-y.false c.if-y-x.false false (sym c.if-is_negative32.false ∙ c.is_negative32.ensures)

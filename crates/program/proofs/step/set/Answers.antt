@@ -1,0 +1,42 @@
+-- `program::step::set` meets its contract.
+use mathlib.Core.Path.{refl}
+use native.Mathlib.Omega.{arith}
+use Rattle.program.specs.declared.step.Stage.TheVariants.{Settings}
+use Rattle.program.specs.StepLaws.{settings_cut, table_cut, table_made, settings_on, settings_refused, refused_moves, whole_room}
+use Rattle.program.proofs.step.set.Goals as goal
+
+pub float-requires : goal.float-requires
+float-requires c = whole_room _ _ _ _ c.is_whole.ensures c.if-is_whole.true (omega arith)
+
+pub float-requires-then-is_whole : goal.float-requires-then-is_whole
+float-requires-then-is_whole c = whole_room _ _ _ _ c.is_whole.ensures c.if-is_whole.true (omega arith)
+
+pub returns-then-is_accepted : goal.returns-then-is_accepted
+returns-then-is_accepted c =
+    let at_set_up = c.before.before.before.before.before in
+    (
+      settings_on _ _ _ c.is_whole.ensures c.if-is_whole.true c.set_up-s.result _ _ _ c.float.ensures c.float-then-is_whole.ensures c.set_up-s.ensures _ _ _ _
+          c.is_accepted.ensures c.if-is_accepted.true,
+      (table_made _ _ _ c.is_whole.ensures c.if-is_whole.true c.set_up-s.result _ _ _ c.float.ensures c.float-then-is_whole.ensures c.set_up-s.ensures, (omega arith, (refl, record { few = omega arith; less = omega arith }))),
+    )
+
+pub returns-then-is_whole : goal.returns-then-is_whole
+returns-then-is_whole c =
+    let test2 = c.before.before.before.before in
+    let at_is_accepted = test2.before in
+    let at_set_up = at_is_accepted.before.before.before in
+    (
+      settings_refused _ _ _ c.is_whole.ensures c.if-is_whole.true c.set_up-s.result _ _ _ c.float.ensures c.float-then-is_whole.ensures c.set_up-s.ensures _ _ _ _
+          c.is_accepted.ensures _ c.if-is_accepted.false c.refused.ensures.same,
+      (
+        table_made _ _ _ c.is_whole.ensures c.if-is_whole.true c.set_up-s.result _ _ _ c.float.ensures c.float-then-is_whole.ensures c.set_up-s.ensures,
+        (c.refused.ensures.near, (c.refused.ensures.kept, refused_moves Settings _ _ _ c.refused.result _ _ c.refused.ensures.same (omega arith))),
+      ),
+    )
+
+pub returns : goal.returns
+returns c =
+    (
+      settings_cut _ _ _ c.is_whole.ensures _ _ _ _ c.if-is_whole.false c.refused-2.ensures.same,
+      (table_cut _ _ _ c.is_whole.ensures c.if-is_whole.false, (c.refused-2.ensures.near, (c.refused-2.ensures.kept, refused_moves Settings _ _ _ c.refused-2.result _ _ c.refused-2.ensures.same (omega arith)))),
+    )

@@ -1,0 +1,14 @@
+-- `read` meets its contract: an admitted state's view is read, any other state is refused.
+use Rattle.receiver.specs.Ways.{view_ranges, reading_accepted, reading_refused}
+use Rattle.receiver.proofs.reading.read.Goals as goal
+
+pub read-p-requires : goal.read-p-requires
+read-p-requires c =
+    view_ranges c.args.r _ c.is_admitted.ensures c.if-is_admitted.true
+
+pub returns-then-is_admitted : goal.returns-then-is_admitted
+returns-then-is_admitted c =
+    reading_accepted _ _ _ _ _ c.is_admitted.ensures c.if-is_admitted.true c.read-p.ensures
+
+pub returns : goal.returns
+returns c = reading_refused _ _ _ c.is_admitted.ensures c.if-is_admitted.false

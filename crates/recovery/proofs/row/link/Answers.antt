@@ -1,0 +1,18 @@
+-- `recovery::row::link` meets its contract: it is a step, and its symbol put into the row.
+use Rattle.recovery.specs.Laws.{linked_is}
+use Rattle.recovery.proofs.row.link.Goals as goal
+
+pub step-s-requires : goal.step-s-requires
+step-s-requires c =
+    let asked = c.requires in
+    record { given = asked.0.state; sizes_value = asked.1 }
+
+pub put-count-requires : goal.put-count-requires
+put-count-requires c =
+    let asked = c.requires in
+    asked.0.symbols
+
+pub returns : goal.returns
+returns c =
+    let is_stepped = c.step-s.ensures in
+    (linked_is _ _ _ _ _ _ is_stepped.0 c.put-count.ensures, is_stepped.1)

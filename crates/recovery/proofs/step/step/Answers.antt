@@ -1,0 +1,31 @@
+-- `recovery::step::step` meets its contract: the three ways (the keeper fills, the clock has no symbol, a symbol is equalized and turns the clock's loop) are the definition's.
+use Rattle.recovery.specs.Laws.{stepped_filling, stepped_waiting, stepped_here}
+use borrow.Author.Rules.{rules}
+use Rattle.recovery.proofs.step.step.Goals as goal
+
+pub keep-k-requires : goal.keep-k-requires
+keep-k-requires c =
+    let asked = c.requires in
+    record { head_bound = asked.0.keeper.head; real_len = asked.0.keeper.real_size; imaginary_len = asked.0.keeper.imaginary_size; sizes_value = asked.1 }
+
+pub returns-in_default : goal.returns-in_default
+returns-in_default c = (stepped_filling _ _ _ _ _ c.keep-k.ensures.same c.enum_told-1.given.1, c.keep-k.ensures.envelopes)
+
+pub step-t-requires : goal.step-t-requires
+step-t-requires c =
+    let asked = c.requires in
+    record { admitted = asked.0.clock; given = search rules }
+
+pub returns-in_default-due : goal.returns-in_default-due
+returns-in_default-due c =
+    let is_kept = c.keep-k.ensures in
+    let is_level = c.level-1.given.1 in
+    (stepped_waiting _ _ _ _ _ is_kept.0 _ _ is_level _ c.step-t.ensures.same c.enum_told-in_default-due-1.given.1, is_kept.1)
+
+pub returns : goal.returns
+returns c =
+    let is_kept = c.keep-k.ensures in
+    let is_level = c.level-1.given.1 in
+    let is_clocked = c.step-t.ensures in
+    let is_due = c.enum_told-in-Symbol-1.given.1 in
+    (stepped_here _ _ _ _ _ is_kept.0 _ _ is_level _ is_clocked.0 _ _ _ _ is_due c.equalize-e.ensures c.update-turned.ensures, is_kept.1)

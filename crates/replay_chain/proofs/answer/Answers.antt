@@ -1,0 +1,45 @@
+-- `replay_chain::answer` is safe: the state that it makes may be run.
+use mathlib.Core.Path.{sym, ap, ◌∙◌}
+use lib.ListN.{length}
+use Rattle.laws.specs.Places.{length_upto}
+use Rattle.sequence.specs.Sequence.{fresh_real}
+use borrow.Author.Tests.{not-false}
+use Rattle.clock.specs.AdmittedLaws.{admitted_facts}
+use Rattle.replay_chain.proofs.answer.Goals as goal
+
+pub run-requires : goal.run-requires
+unfolding fresh_real
+run-requires c =
+    let test = c.before.before.before.before.before.before.before.before.before.before.before.before.before.before.before in
+    let at_is_admitted = test.before in
+    let at_made_second = at_is_admitted.before in
+    let at_made_place = at_made_second.before.before.before.before.before.before.before.before.before.before.before.before.before.before.before in
+    let at_fill_parents = at_made_place.before.before.before in
+    let at_fill9 = at_fill_parents.before.before.before in
+    let at_fill8 = at_fill9.before.before.before in
+    let at_fill7 = at_fill8.before.before.before in
+    let q = c.requires in
+    record {
+      recovery = record {
+        keeper = record { head = q.keeper_head; fill = q.keeper_fill; real_size = c.fill-s1.ensures; imaginary_size = c.fill-s2.ensures };
+        clock = admitted_facts _ (sym c.is_admitted.ensures ∙ not-false _ c.if-not-is_admitted.false);
+      };
+      decisions = record {
+        carrier = record {
+          alternation = q.alternation;
+          detector = record {
+            skeleton = record {
+              place = record { write = c.made_place-made.ensures.0; filled = c.made_place-made.ensures.1; earlier = c.made_place-made.ensures.2 };
+              table = c.fill_parents-s10.ensures.0;
+              costs_size = c.fill-s9.ensures;
+              parents_size = c.fill_parents-s10.ensures.1;
+            };
+            real_size = c.fill-s7.ensures ∙ ap length c.fresh_channels-channel_real.ensures ∙ length_upto _ _;
+            imaginary_size = c.fill-s8.ensures;
+          };
+        };
+        view = record { head = q.view_head; count = q.view_count };
+      };
+      second = λ on. c.made_second-second.ensures.ranged;
+      delivery = record { locked = q.locked };
+    }

@@ -1,0 +1,39 @@
+-- `replay_chain::row` is safe, and leaves a chain that may be run.
+use mathlib.Core.Path.{refl, sym}
+use native.Mathlib.Omega.{arith}
+use lib.Seq.{length-take-le}
+use Rattle.replay_chain.specs.Laws.{lent_rooms}
+use borrow.Author.Rules.{rules}
+use Rattle.replay_chain.proofs.row.Goals as goal
+
+pub overflow_mul-pairs : goal.overflow_mul-pairs
+overflow_mul-pairs c = omega (arith, c.rooms-room.ensures.most)
+
+pub slice_bounds-others-end : goal.slice_bounds-others-end
+slice_bounds-others-end c =
+    c.rooms-room.ensures.most
+
+pub slice_bounds-chain-end-4 : goal.slice_bounds-chain-end-4
+slice_bounds-chain-end-4 c =
+    sym (length-take-le _ _ c.rooms-room.ensures.most)
+
+pub slice_bounds-other_reliabilities-end : goal.slice_bounds-other_reliabilities-end
+slice_bounds-other_reliabilities-end c =
+    omega (arith, c.rooms-room.ensures.most)
+
+pub slice_bounds-chain-end-5 : goal.slice_bounds-chain-end-5
+slice_bounds-chain-end-5 c =
+    sym (length-take-le _ _ (omega (arith, c.rooms-room.ensures.most)))
+
+pub chain-c-requires : goal.chain-c-requires
+chain-c-requires c =
+    let asked = c.requires in record { given = record {
+        state = asked.0;
+        symbols = omega (arith, asked.1.0, asked.1.1.0);
+        room = record { dibits = search (rules, asked.1.1.0, asked.1.1.1); reliabilities = search (rules, asked.1.1.0, asked.1.1.1) };
+        other = lent_rooms _ _ _ _ _ _ c.rooms-room.ensures.value refl refl asked.1.1.0 asked.1.1.1;
+      }; made_bound = (asked.1.1.0, ) }
+
+pub returns : goal.returns
+returns c =
+    c.chain-c.ensures.1.ranged

@@ -1,0 +1,19 @@
+-- `replay_receiver::desk::both_in` is safe and ends.
+use Rattle.std.proofs.Common.{◌∙◌}
+use Rattle.replay_receiver.proofs.desk.both_in.Goals as goal
+
+pub shape_of-dibits : goal.shape_of-dibits
+shape_of-dibits c =
+    c.dibits-2-1.given ∙ c.dibits-1.given
+
+pub shape_of-reliabilities : goal.shape_of-reliabilities
+shape_of-reliabilities c =
+    c.reliabilities-2-1.given ∙ c.reliabilities-1.given
+
+pub shape_of-others : goal.shape_of-others
+shape_of-others c =
+    c.others-2-1.given ∙ c.others-1.given
+
+pub shape_of-other_reliabilities : goal.shape_of-other_reliabilities
+shape_of-other_reliabilities c =
+    c.other_reliabilities-2-1.given ∙ c.other_reliabilities-1.given

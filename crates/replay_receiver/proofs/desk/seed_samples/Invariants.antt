@@ -1,0 +1,9 @@
+-- `replay_receiver::desk::seed_samples` is safe and ends.
+use Rattle.std.proofs.Common.{◌≡◌, ◌-◌, ◌≤◌, length}
+use Rattle.replay_receiver.proofs.desk.seed_samples.Given as goal
+
+abbrev pub invariant-loop-i : goal.invariant-loop-i
+invariant-loop-i l = (l.i ≤ l.initial.floats) × (length l.floats ≡ length l.n)
+
+abbrev pub decreases-loop-i : goal.decreases-loop-i
+decreases-loop-i l = l.initial.floats - l.i

@@ -1,0 +1,11 @@
+-- `write_raw` meets its contract: each turn writes a tap at its place and adds it, and the last tap is added alone.
+use Rattle.std.proofs.Common.{◌≡◌, ◌-◌, ◌≤◌, length}
+use Rattle.resampler.specs.Loops.{Raw, both_turn, start_raw}
+use Rattle.laws.specs.Turns.{turns}
+use Rattle.resampler.proofs.design.write_raw.Given as goal
+
+abbrev pub invariant-loop-i : goal.invariant-loop-i
+invariant-loop-i l = (l.i ≤ l.initial.table) × (length l.table ≡ length l.last) × (◌≡◌ {A = Raw} (record { l.sum = l.sum; l.table = l.table }) (turns (both_turn l.omega l.arm) l.i (start_raw l.last)))
+
+abbrev pub decreases-loop-i : goal.decreases-loop-i
+decreases-loop-i l = l.initial.table - l.i

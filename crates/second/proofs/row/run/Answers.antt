@@ -1,0 +1,59 @@
+-- `run` meets its contract: after i turns the first i symbols of the row are decided, and the inverses are in the array of that turn.
+use mathlib.Core.Path.{refl}
+use Prim.Native.Nat.{◌-◌}
+use native.Mathlib.Omega.{arith}
+use Rattle.second.specs.Laws.{first_asks, row_start, row_step, next_held, held_end}
+use borrow.Author.Rules.{rules}
+use Rattle.second.proofs.row.run.Goals as goal
+
+pub loop-i-init : goal.loop-i-init
+loop-i-init c =
+    let given = c.requires in
+    (omega arith, given.0.state.detector.memory.inverse_size, given.1.0, row_start _ _ _ _)
+
+pub offset_bounds-symbol_real-i : goal.offset_bounds-symbol_real-i
+offset_bounds-symbol_real-i c =
+    let at_loop_test = c in
+    search (rules, at_loop_test.loop-test, at_loop_test.before.before.requires.1.1)
+
+pub bounds-symbol_real-i : goal.bounds-symbol_real-i
+bounds-symbol_real-i c =
+    let at_loop_test = c in
+    search (rules, at_loop_test.loop-test, at_loop_test.before.before.requires.1.1)
+
+pub offset_bounds-symbol_imaginary-i : goal.offset_bounds-symbol_imaginary-i
+offset_bounds-symbol_imaginary-i c =
+    search (rules, c.loop-i-test, c.requires.count_bound)
+
+pub bounds-symbol_imaginary-i : goal.bounds-symbol_imaginary-i
+bounds-symbol_imaginary-i c =
+    search (rules, c.loop-i-test, c.requires.count_bound)
+
+pub bounds-reliable-i : goal.bounds-reliable-i
+bounds-reliable-i c =
+    search (rules, c.loop-i-test, c.requires.count_bound)
+
+pub turned-t-requires : goal.turned-t-requires
+turned-t-requires c =
+    let given = c.requires in
+    let held = c.loop-i.invariant in
+    record { given_link = next_held _ _ _ _ _ _ _ (first_asks _ _ given.0) held.3 held.1; odd_len = held.2; at_bound = omega (arith, c.loop-i-test, given.1.1) }
+
+pub overflow_add-i : goal.overflow_add-i
+overflow_add-i c =
+    record { fits = omega (arith, c.loop-i-test, c.requires.count_bound) }
+
+pub loop-i-smaller : goal.loop-i-smaller
+loop-i-smaller c =
+    omega (arith, c.loop-i-test)
+
+pub loop-i-preserved : goal.loop-i-preserved
+loop-i-preserved c =
+    let after = c.turned-t.ensures in
+    (omega (arith, c.loop-i-test), after.1.0, after.1.1, row_step _ _ _ _ _ _ _ after.0 c.loop-i.invariant.3)
+
+pub returns : goal.returns
+returns c =
+    let given = c.requires in
+    let held = c.loop-i.invariant in
+    record { leaves_turns = held_end _ _ _ _ _ _ _ _ _ (first_asks _ _ given.0) held.3 refl held.0 (omega (arith, c.loop-i-test)); whole = (held.1, held.2) }

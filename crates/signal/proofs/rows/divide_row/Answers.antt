@@ -1,0 +1,24 @@
+-- `signal::rows::divide_row` meets its contract: the invariant is the row after j turns, each with its two quotients.
+use Rattle.std.proofs.Common.{◌-◌, length-set, rules}
+use Rattle.laws.specs.Turns.{turns_start, turns_step, turns_end}
+use Rattle.signal.proofs.rows.divide_row.Goals as goal
+
+pub loop-j-init : goal.loop-j-init
+loop-j-init c = (search rules, search rules, turns_start _ _)
+
+pub quotient-requires : goal.quotient-requires
+quotient-requires c = let p = c.requires.1.1.1 in record { x_value = p.0.real _ c.loop-j-test.true; plain_amplitude = p.1 }
+
+pub quotient-requires-in-loop-j : goal.quotient-requires-in-loop-j
+quotient-requires-in-loop-j c = let p = c.requires.1.1.1 in record { x_value = p.0.imaginary _ c.loop-j-test.true; plain_amplitude = p.1 }
+
+pub loop-j-preserved : goal.loop-j-preserved
+loop-j-preserved c =
+    let so_far = c.loop-j.invariant in (
+      search rules,
+      simp length-set so_far.1,
+      rw (c.quotient-in-loop-j.ensures.same, c.quotient.ensures.same) (turns_step _ _ _ _ so_far.2),
+    )
+
+pub returns : goal.returns
+returns c = turns_end _ _ _ _ _ c.loop-j.invariant.2 (search rules) (search rules)
