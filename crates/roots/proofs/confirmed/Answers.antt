@@ -3,9 +3,16 @@ use Rattle.std.proofs.Common.{ℕ, ◌+◌, ◌*◌, ◌/◌, ◌%◌, ◌^◌, 
 use mathlib.Core.Bool.{false≢true}
 use Rattle.roots.proofs.Guessed.{seen_half, unwrapped, product_lt}
 use Rattle.roots.proofs.confirmed.Goals as goal
+use Rattle.roots.proofs.confirmed.Lts as lts
+use Rattle.roots.proofs.confirmed.Tie as tie
+use Rattle.roots.proofs.confirmed.Reads as reads
+
+-- what is known where the code begins
+abbrev Start : Type 0
+Start = lts.Start tie.the-claims reads.Pre reads.Post tie.handed_clauses
 
 -- the halves of q are below 2 ^ 27, and their products fit
-module _ (c : goal.Start) where
+module _ (c : Start) where
   abbrev n : ℕ
   n = c.args.n
 

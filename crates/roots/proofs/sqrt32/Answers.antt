@@ -4,8 +4,15 @@ use lib.Ieee.{binary32, of_bits, div, fits}
 use Rattle.roots.specs.declared.Radicand.TheVariants.{Itself, Negative, Digits}
 use Rattle.roots.proofs.Rooting.{root_made, root_bounded}
 use Rattle.roots.proofs.sqrt32.Goals as goal
+use Rattle.roots.proofs.sqrt32.Lts as lts
+use Rattle.roots.proofs.sqrt32.Tie as tie
+use Rattle.roots.proofs.sqrt32.Reads as reads
 
-held : (c : goal.Start) → T (fits binary32 c.args.x)
+-- what is known where the code begins
+abbrev Start : Type 0
+Start = lts.Start tie.the-claims reads.Pre reads.Post tie.handed_clauses
+
+held : (c : Start) → T (fits binary32 c.args.x)
 held c = subst T (sym c.well_formed.0.1) tt
 
 pub sqrt32_finite-requires : goal.sqrt32_finite-requires

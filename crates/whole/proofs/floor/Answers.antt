@@ -6,8 +6,15 @@ use Rattle.whole.specs.Fractions.{fraction_of}
 use Rattle.whole.specs.declared.Fraction.TheVariants.{Parts}
 use Rattle.whole.proofs.ToWhole.{down_is, down_le, made_nothing, made_parts, parts_bounded}
 use Rattle.whole.proofs.floor.Goals as goal
+use Rattle.whole.proofs.floor.Lts as lts
+use Rattle.whole.proofs.floor.Tie as tie
+use Rattle.whole.proofs.floor.Reads as reads
 
-held : (c : goal.Start) → T (fits binary64 c.args.x)
+-- what is known where the code begins
+abbrev Start : Type 0
+Start = lts.Start tie.the-claims reads.Pre reads.Post tie.handed_clauses
+
+held : (c : Start) → T (fits binary64 c.args.x)
 held c = subst T (sym c.well_formed.0.1) tt
 
 -- what the match learns

@@ -8,22 +8,32 @@ use Rattle.numbers.specs.Numbers.{convert}
 use Rattle.numbers.specs.Laws.{no_nan, convert_value, convert_nan, convert_inf}
 use Rattle.numbers.proofs.Narrowing.{pattern_lt}
 use Rattle.numbers.proofs.narrow.narrow.Goals as goal
+use Rattle.numbers.proofs.narrow.narrow.Lts as lts
+use Rattle.numbers.proofs.narrow.narrow.Tie as tie
+use Rattle.numbers.proofs.narrow.narrow.Reads as reads
+
+-- what is known where the code begins, and past the first two tests
+abbrev Start : Type 0
+Start = lts.Start tie.the-claims reads.Pre reads.Post tie.handed_clauses
+
+abbrev Finite : Type 0
+Finite = lts.Else2 tie.the-claims reads.Pre reads.Post tie.handed_clauses
 
 -- x, its bits and its sign
-held : (c : goal.Start) → T (fits binary64 c.args.x)
+held : (c : Start) → T (fits binary64 c.args.x)
 held c = subst T (sym c.well_formed.0.1) tt
 
-abbrev bits : goal.Start → ℕ
+abbrev bits : Start → ℕ
 bits c = to_bits binary64 c.args.x
 
-abbrev sgn : goal.Start → Bool
+abbrev sgn : Start → Bool
 sgn c = leb 0x8000_0000_0000_0000 (bits c)
 
 -- past the first two tests the exponent's field is below the infinity's, and the value is that of the bits
-finite : (c : goal.Else-magnitude-eq9218868437227405312) → field binary64 (bits c.before.before) < 2047
+finite : (c : Finite) → field binary64 (bits c.before.before) < 2047
 finite c = finite_field binary64 c.args.x (held c.before.before) (no_nan c.args.x c.if-x.false) c.if-magnitude-eq9218868437227405312.false
 
-value : (c : goal.Else-magnitude-eq9218868437227405312) → round binary32 (sgn c.before.before) (digits_of binary64 (bits c.before.before) * 2 ^ power_of binary64 (bits c.before.before)) (2 ^ 1074) ≡ convert binary32 c.args.x
+value : (c : Finite) → round binary32 (sgn c.before.before) (digits_of binary64 (bits c.before.before) * 2 ^ power_of binary64 (bits c.before.before)) (2 ^ 1074) ≡ convert binary32 c.args.x
 value c =
     let a = c.before.before in
     sym (convert_value binary32 c.args.x (sgn a) (digits_of binary64 (bits a) * 2 ^ power_of binary64 (bits a)) (2 ^ 1074) (pow_pos 1074) (float_value binary64 c.args.x (held a) (finite c)))
@@ -54,10 +64,7 @@ narrow_finite-requires c =
     let e = c.before.before.before.before in
     let b = bits e.before.before in
     let D = c.digits.ensures in
-    let P = c.power.ensures in record { d_bound = subst (λ (x : ℕ). x < 2 ^ 53) (sym D) (digits_lt binary64 b); bound = (
-        (λ h. subst (λ (x : ℕ). 2 ^ 52 ≤ x) (sym D) (digits_ge binary64 b (subst (λ (x : ℕ). 0 < x) P h))),
-        subst (λ (x : ℕ). x ≤ 2045) (sym P) (power_le (field binary64 b) (finite e)),
-      ); e_bound =  }
+    let P = c.power.ensures in record { d_bound = subst (λ (x : ℕ). x < 2 ^ 53) (sym D) (digits_lt binary64 b); bound = (λ h. subst (λ (x : ℕ). 2 ^ 52 ≤ x) (sym D) (digits_ge binary64 b (subst (λ (x : ℕ). 0 < x) P h))); e_bound = subst (λ (x : ℕ). x ≤ 2045) (sym P) (power_le (field binary64 b) (finite e)) }
 
 pub returns-then-is_rare : goal.returns-then-is_rare
 returns-then-is_rare c =

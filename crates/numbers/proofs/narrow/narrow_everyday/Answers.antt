@@ -5,19 +5,25 @@ use mir.Facts.{Fits-of_lt}
 use Rattle.laws.specs.FloatPack.{no_nan_bits}
 use Rattle.numbers.proofs.Narrowing.{Everyday, everyday, kept, everyday_is, sign_bit}
 use Rattle.numbers.proofs.narrow.narrow_everyday.Goals as goal
+use Rattle.numbers.proofs.narrow.narrow_everyday.Lts as lts
+use Rattle.numbers.proofs.narrow.narrow_everyday.Reads as reads
+
+-- what is known where the code begins
+abbrev Start : Type 0
+Start = lts.Start reads.Pre reads.Post
 
 -- b, and what the pattern comes to
-abbrev b : goal.Start → ℕ
+abbrev b : Start → ℕ
 b c = c.args.b
 
-day : (c : goal.Start) → Everyday (b c)
+day : (c : Start) → Everyday (b c)
 day c = everyday (b c) c.requires
 
-fits_b : (c : goal.Start) → b c < 2 ^ 64
+fits_b : (c : Start) → b c < 2 ^ 64
 fits_b c = omega (arith, c.ranges.b)
 
 -- the sign's bit and the pattern
-whole : (c : goal.Start) → b c / 0x8000_0000_0000_0000 * 0x8000_0000 + kept (b c) (day c) ≡ cond (leb 0x8000_0000_0000_0000 (b c)) 0x8000_0000 0 + kept (b c) (day c)
+whole : (c : Start) → b c / 0x8000_0000_0000_0000 * 0x8000_0000 + kept (b c) (day c) ≡ cond (leb 0x8000_0000_0000_0000 (b c)) 0x8000_0000 0 + kept (b c) (day c)
 whole c = ap (λ (x : ℕ). x + kept (b c) (day c)) (sign_bit (b c) (fits_b c))
 
 -- 32 bits and no NaN's pattern, whatever the digits round to

@@ -13,41 +13,48 @@ use Rattle.receiver.specs.Accepted.{take_asks, take_total}
 use Rattle.receiver.specs.BlockLaws.{none_lent, run_asks, ended_one, taken_one, take_refused}
 use borrow.Author.Rules.{rules}
 use Rattle.receiver.proofs.block.take.Goals as goal
+use Rattle.receiver.proofs.block.take.Lts as lts
+use Rattle.receiver.proofs.block.take.Tie as tie
+use Rattle.receiver.proofs.block.take.Reads as reads
+
+-- what is known where the code begins
+abbrev Start : Type 0
+Start = lts.Start tie.the-claims reads.Pre reads.Post tie.handed_clauses
 
 -- the planes of the state handed in have the lengths of their types
-keeper_real : (entry : goal.Start) → length entry.args.r.keeper_real ≡ 64
+keeper_real : (entry : Start) → length entry.args.r.keeper_real ≡ 64
 keeper_real entry = search (rules, entry.well_formed.0.1.1.1.1.1.1.1.1.0)
 
-keeper_imaginary : (entry : goal.Start) → length entry.args.r.keeper_imaginary ≡ 64
+keeper_imaginary : (entry : Start) → length entry.args.r.keeper_imaginary ≡ 64
 keeper_imaginary entry = search (rules, entry.well_formed.0.1.1.1.1.1.1.1.1.1.0)
 
-channel_real : (entry : goal.Start) → length entry.args.r.channel_real ≡ 256
+channel_real : (entry : Start) → length entry.args.r.channel_real ≡ 256
 channel_real entry = search (rules, entry.well_formed.0.1.1.1.1.1.1.1.1.1.1.1.1.1.1.0)
 
-channel_imaginary : (entry : goal.Start) → length entry.args.r.channel_imaginary ≡ 256
+channel_imaginary : (entry : Start) → length entry.args.r.channel_imaginary ≡ 256
 channel_imaginary entry = search (rules, entry.well_formed.0.1.1.1.1.1.1.1.1.1.1.1.1.1.1.1.0)
 
-costs : (entry : goal.Start) → length entry.args.r.costs ≡ 64
+costs : (entry : Start) → length entry.args.r.costs ≡ 64
 costs entry = search (rules, entry.well_formed.0.1.1.1.1.1.1.1.1.1.1.1.1.1.1.1.1.0)
 
-parents : (entry : goal.Start) → length entry.args.r.parents ≡ 2048
+parents : (entry : Start) → length entry.args.r.parents ≡ 2048
 parents entry = search (rules, entry.well_formed.0.1.1.1.1.1.1.1.1.1.1.1.1.1.1.1.1.1.0)
 
-memory : (entry : goal.Start) → length entry.args.r.memory ≡ 9280
+memory : (entry : Start) → length entry.args.r.memory ≡ 9280
 memory entry = search (rules, entry.well_formed.0.1.1.1.1.1.1.1.1.1.1.1.1.1.1.1.1.1.1.1.1.1.0)
 
-ancestors : (entry : goal.Start) → length entry.args.r.ancestors ≡ 2048
+ancestors : (entry : Start) → length entry.args.r.ancestors ≡ 2048
 ancestors entry = search (rules, entry.well_formed.0.1.1.1.1.1.1.1.1.1.1.1.1.1.1.1.1.1.1.1.1.1.1)
 
 -- and its profile is a number of 32 bits
-abbrev handed_in : goal.After-struct_told-1 → goal.Start
+abbrev handed_in : goal.After-struct_told-1 → Start
 handed_in told = let entry = told.before.before.before.before.before.before.before.before.before.before.before.before.before.before.before.before.before.before.before.before.before.before.before.before.before.before.before.before.before.before in entry
 
 profile_fits : (told : goal.After-struct_told-1) → SFits w32 (handed_in told).args.r.chain.profile
 profile_fits told = search (rules, told.struct_told-1.given)
 
 -- the rooms that it is lent
-abbrev rooms : goal.Start → Rooms
+abbrev rooms : Start → Rooms
 rooms entry = one entry.args.dibits.now entry.args.reliabilities.now
 
 pub take_any-block-requires : goal.take_any-block-requires

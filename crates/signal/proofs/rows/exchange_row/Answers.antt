@@ -41,4 +41,4 @@ loop-j-preserved c =
 
 pub returns : goal.returns
 returns c =
-    let v = c.loop-j.invariant in record { errors = turns_end _ _ _ _ _ v.4 (search rules) (search rules); written = (turns_end _ _ _ _ _ v.5 (search rules) (search rules), turns_end _ _ _ _ _ v.3 (search rules) (search rules)); divided =  }
+    let v = c.loop-j.invariant in record { errors = turns_end _ _ _ _ _ v.4 (search rules) (search rules); written = turns_end _ _ _ _ _ v.5 (search rules) (search rules); divided = turns_end _ _ _ _ _ v.3 (search rules) (search rules) }
