@@ -10,10 +10,10 @@ matched-requires c =
     let is_due = c.due-1.given.1 in
     let is_ticked = c.ticked-s.ensures in
     let asked = c.requires in
-    let k = after_symbol _ _ _ _ is_due is_ticked.1 in record { arm_bound_1 = k.0; arm_bound_2 = k.1; given = asked.1 }
+    let k = after_symbol _ _ _ _ is_due is_ticked.kept in record { arm_bound_1 = k.0; arm_bound_2 = k.1; given = asked.given }
 
 pub returns : goal.returns
 returns c =
     let is_ticked = c.ticked-s.ensures in
     let is_due = c.due-1.given.1 in
-    record { same = step_symbol _ _ _ _ _ _ _ _ _ _ is_ticked.0 _ _ _ is_due c.matched.ensures; kept = is_ticked.1 }
+    record { same = step_symbol _ _ _ _ _ _ _ _ _ _ is_ticked.same _ _ _ is_due c.matched.ensures; kept = is_ticked.kept }

@@ -11,27 +11,27 @@ loop-i-init c = (omega arith, refl, refl, row_start _ _ _)
 pub answer_at-requires : goal.answer_at-requires
 answer_at-requires c =
     let given = c.requires in
-    omega (arith, c.loop-i-test, given.1)
+    omega (arith, c.loop-i-test, given.count_bound)
 
 pub is_told_at-requires : goal.is_told_at-requires
 is_told_at-requires c =
     let given = c.requires in
-    omega (arith, c.loop-i-test, given.1)
+    omega (arith, c.loop-i-test, given.count_bound)
 
 pub is_locked_at-locked-requires : goal.is_locked_at-locked-requires
 is_locked_at-locked-requires c =
     let given = c.requires in
-    omega (arith, c.loop-i-test, given.1)
+    omega (arith, c.loop-i-test, given.count_bound)
 
 pub step-t-requires : goal.step-t-requires
 step-t-requires c =
     let given = c.requires in
-    row_asks _ _ _ _ _ _ given.0 c.loop-i.invariant.3 (omega (arith, c.loop-i-test))
+    row_asks _ _ _ _ _ _ given.given c.loop-i.invariant.3 (omega (arith, c.loop-i-test))
 
 pub overflow_add-i : goal.overflow_add-i
 overflow_add-i c =
     let given = c.requires in
-    record { fits = omega (arith, c.loop-i-test, given.1) }
+    record { fits = omega (arith, c.loop-i-test, given.count_bound) }
 
 pub loop-i-smaller : goal.loop-i-smaller
 loop-i-smaller c =
@@ -48,4 +48,4 @@ loop-i-preserved c =
 pub returns : goal.returns
 returns c =
     let given = c.requires in
-    row_end _ _ _ _ _ _ given.0 c.loop-i.invariant.3 c.loop-i.invariant.0 (omega (arith, c.loop-i-test))
+    row_end _ _ _ _ _ _ given.given c.loop-i.invariant.3 c.loop-i.invariant.0 (omega (arith, c.loop-i-test))

@@ -5,7 +5,7 @@ use Rattle.filter.proofs.matched.Goals as goal
 pub windows-requires : goal.windows-requires
 windows-requires c =
     let asked = c.requires in
-    asked.1.1
+    asked.given
 
 pub returns : goal.returns
 returns c =

@@ -15,7 +15,7 @@ loop-g-preserved c =
     let is_real = c.put.ensures in
     let is_imaginary = c.put-in-loop-g.ensures in (
       search rules,
-      made_group _ _ _ _ _ _ _ _ _ _ _ _ _ _ _ so_far.1 (search rules) is_group.0 (search rules)
+      made_group _ _ _ _ _ _ _ _ _ _ _ _ _ _ _ so_far.1 (search rules) is_group.is (search rules)
           is_sums is_real is_imaginary c.put-in-loop-g-2.ensures c.put-in-loop-g-3.ensures,
     )
 

@@ -9,7 +9,7 @@ use Rattle.front.proofs.front.Given as goal
 abbrev pub invariant-loop-t : goal.invariant-loop-t
 invariant-loop-t l = Going (length l.samples / 2 - l.from) l.initial.t.place l.t
     × (filled_of l.conjugated l.table l.samples (front_now l.t l.from l.ring_real l.ring_imaginary l.row_real l.row_imaginary)
-    ≡ filled_of l.conjugated l.table l.samples (front_now l.initial.t l.from l.end l.initial.ring_real l.initial.ring_imaginary l.initial.row_real))
+    ≡ filled_of l.conjugated l.table l.samples (front_now l.initial.t l.from l.initial.ring_real l.initial.ring_imaginary l.initial.row_real l.initial.row_imaginary))
 
 abbrev pub decreases-loop-t : goal.decreases-loop-t
 decreases-loop-t l = length l.samples / 2 - (l.from + l.t.used)

@@ -21,4 +21,4 @@ loop-s-preserved c =
     (search rules, limit_step _ _ _ _ _ c.limit_taps.ensures.real_after limited.1, limit_step _ _ _ _ _ c.limit_taps.ensures.imaginary_after limited.2)
 
 pub returns : goal.returns
-returns c = record { real_after = limit_end _ _ _ _ c.loop-s.invariant.1 (search rules) (search rules) c.requires.0; imaginary_after = (limit_end _ _ _ _ c.loop-s.invariant.2 (search rules) (search rules) c.requires.1, ) }
+returns c = record { real_after = limit_end _ _ _ _ c.loop-s.invariant.1 (search rules) (search rules) c.requires.0; imaginary_after = limit_end _ _ _ _ c.loop-s.invariant.2 (search rules) (search rules) c.requires.1 }

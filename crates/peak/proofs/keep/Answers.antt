@@ -7,12 +7,12 @@ use Rattle.peak.proofs.keep.Goals as goal
 pub returns-then-place-lt63 : goal.returns-then-place-lt63
 returns-then-place-lt63 c =
     let asked = c.requires in
-    record { same = keep_filling _ _ _ _ _ c.if-place-lt63.true refl; envelopes = renews _ _ _ _ _ _ _ asked.1.1.1 c.envelope.ensures asked.0 asked.1.0 asked.1.1.0 }
+    record { same = keep_filling _ _ _ _ _ c.if-place-lt63.true refl; envelopes = renews _ _ _ _ _ _ _ asked.sizes_value c.envelope.ensures asked.head_bound asked.real_len asked.imaginary_len }
 
 pub returns : goal.returns
 returns c =
     let asked = c.requires in
     let is_envelope = c.envelope.ensures in
     let full = c.if-place-lt63.false in
-    let sizes = renews _ _ _ _ _ _ _ asked.1.1.1 is_envelope asked.0 asked.1.0 asked.1.1.0 in
+    let sizes = renews _ _ _ _ _ _ _ asked.sizes_value is_envelope asked.head_bound asked.real_len asked.imaginary_len in
     record { same = keep_level _ _ _ _ _ _ full (c.highest.ensures ∙ ap highest_of sizes ∙ highest_is _ _) c.levelled.ensures; envelopes = sizes }

@@ -12,4 +12,4 @@ row-requires c =
 pub returns : goal.returns
 returns c =
     let is_tables = c.both_tables-tables.ensures in
-    (recovered_is _ _ _ _ _ _ is_tables.0 c.row.ensures.0, c.row.ensures.1)
+    (recovered_is _ _ _ _ _ _ is_tables.same c.row.ensures.0, c.row.ensures.1)

@@ -28,11 +28,11 @@ slice_bounds-chain-end-5 c =
 pub chain-c-requires : goal.chain-c-requires
 chain-c-requires c =
     let asked = c.requires in record { given = record {
-        state = asked.0;
-        symbols = omega (arith, asked.1.0, asked.1.1.0);
-        room = record { dibits = search (rules, asked.1.1.0, asked.1.1.1); reliabilities = search (rules, asked.1.1.0, asked.1.1.1) };
-        other = lent_rooms _ _ _ _ _ _ c.rooms-room.ensures.value refl refl asked.1.1.0 asked.1.1.1;
-      }; made_bound = (asked.1.1.0, ) }
+        state = asked.given;
+        symbols = omega (arith, asked.symbols_bound, asked.made_bound);
+        room = record { dibits = search (rules, asked.made_bound, asked.before_bound); reliabilities = search (rules, asked.made_bound, asked.before_bound) };
+        other = lent_rooms _ _ _ _ _ _ c.rooms-room.ensures.value refl refl asked.made_bound asked.before_bound;
+      }; made_bound = asked.made_bound }
 
 pub returns : goal.returns
 returns c =

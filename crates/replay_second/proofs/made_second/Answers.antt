@@ -18,4 +18,4 @@ returns c =
           };
           memory = memory_sized _ (omega (arith, whole));
         };
-      }; whole = (parents_are.1, ) }
+      }; whole = parents_are.1 }

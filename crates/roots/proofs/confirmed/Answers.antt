@@ -2,10 +2,10 @@
 use Rattle.std.proofs.Common.{ℕ, ◌+◌, ◌*◌, ◌/◌, ◌%◌, ◌^◌, ◌<◌, T, sym, subst, arith, leb→le}
 use mathlib.Core.Bool.{false≢true}
 use Rattle.roots.proofs.Guessed.{seen_half, unwrapped, product_lt}
-use Rattle.roots.proofs.confirmed.Goals as goal
 use Rattle.roots.proofs.confirmed.Lts as lts
-use Rattle.roots.proofs.confirmed.Tie as tie
 use Rattle.roots.proofs.confirmed.Reads as reads
+use Rattle.roots.proofs.confirmed.Tie as tie
+use Rattle.roots.proofs.confirmed.Goals as goal
 
 -- what is known where the code begins
 abbrev Start : Type 0

@@ -5,8 +5,8 @@ use Rattle.roots.proofs.Rooting.{digit_le, digit_takes}
 use Rattle.roots.proofs.root.Goals as goal
 
 -- in a turn q has fewer than 60 digits
-short : (c : goal.In-loop-i invariant_loop decreases_loop) → c.before.loop.q < 2 ^ 60
-short c = let h : c.before.loop.i ≤ 60 = omega (arith, c.loop-test.true, c.before.before.requires) in lt_of_lt_of_le c.before.loop.invariant.1.small (pow_mono h)
+short : (c : goal.In-loop-i) → c.loop-i.q < 2 ^ 60
+short c = let h : c.loop-i.i ≤ 60 = omega (arith, c.loop-i-test.true, c.requires) in lt_of_lt_of_le c.loop-i.invariant.1.small (pow_mono h)
 
 pub loop-i-init : goal.loop-i-init
 loop-i-init c = (omega arith, start c.args.n (omega (arith, c.ranges.n)))
@@ -33,8 +33,8 @@ pub overflow_add-rem : goal.overflow_add-rem
 overflow_add-rem c = omega (arith, short c.before)
 
 -- what is taken off
-taken : (c : goal.After-digit-g invariant_loop decreases_loop) → c.digit.result * (c.before.before.loop.q * 4 + 1) ≤ c.before.before.loop.rem * 4 + c.before.before.loop.rest / 2 ^ 62
-taken c = let l = c.before.before.loop in digit_takes (l.q * 4 + 1) (l.rem * 4 + l.rest / 2 ^ 62) c.digit.result c.digit.ensures
+taken : (c : goal.After-digit-g) → c.digit-g.result * (c.loop-i.q * 4 + 1) ≤ c.loop-i.rem * 4 + c.loop-i.rest / 2 ^ 62
+taken c = let l = c.loop-i in digit_takes (l.q * 4 + 1) (l.rem * 4 + l.rest / 2 ^ 62) c.digit-g.result c.digit-g.ensures
 
 pub overflow_mul-rem-in-loop-i : goal.overflow_mul-rem-in-loop-i
 overflow_mul-rem-in-loop-i c = omega (arith, taken c, short c.before, c.loop-i.invariant.1.left, c.loop-i.invariant.1.rest_lt)

@@ -3,10 +3,10 @@ use Rattle.std.proofs.Common.{T, sym, ◌∙◌, subst}
 use lib.Ieee.{binary32, of_bits, div, fits}
 use Rattle.roots.specs.declared.Radicand.TheVariants.{Itself, Negative, Digits}
 use Rattle.roots.proofs.Rooting.{root_made, root_bounded}
-use Rattle.roots.proofs.sqrt32.Goals as goal
 use Rattle.roots.proofs.sqrt32.Lts as lts
-use Rattle.roots.proofs.sqrt32.Tie as tie
 use Rattle.roots.proofs.sqrt32.Reads as reads
+use Rattle.roots.proofs.sqrt32.Tie as tie
+use Rattle.roots.proofs.sqrt32.Goals as goal
 
 -- what is known where the code begins
 abbrev Start : Type 0

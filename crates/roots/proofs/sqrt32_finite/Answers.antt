@@ -33,7 +33,7 @@ overflow_mul-d c = omega (arith, moved c)
 
 -- what `root` ensures, of d * 2 ^ y
 abbrev y : goal.After-wide-z → ℕ
-y c = c.wide.result - (c.before.args.p + c.wide.result + 1) % 2
+y c = c.wide-z.result - (c.args.p + c.wide-z.result + 1) % 2
 
 module _ (c : goal.After-root-w) where
   abbrev w : ℕ

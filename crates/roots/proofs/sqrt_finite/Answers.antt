@@ -29,7 +29,7 @@ overflow_mul-d c = omega (arith, moved c)
 
 -- what `half_root` ensures, of d * 2 ^ y
 abbrev y : goal.After-wide-z → ℕ
-y c = c.wide.result - (c.before.args.p + c.wide.result) % 2
+y c = c.wide-z.result - (c.args.p + c.wide-z.result) % 2
 
 module _ (c : goal.After-half_root-q) where
   abbrev d : ℕ

@@ -5,24 +5,12 @@ use Rattle.signal.proofs.write_plain.Goals as goal
 
 pub write_run-early-requires : goal.write_run-early-requires
 write_run-early-requires c =
-    let p = c.requires.1.1.1 in (
-      search rules,
-      (
-        search rules,
-        (search rules, (plain_early c.args.start c.args.count _ c.requires.start_bound c.requires.count_bound c.least_usize-first.ensures _ _ p.0, p.1)),
-      ),
-    )
+    let p = c.requires.1.1.1 in record { count_bound = search rules; count_bound_2 = search rules; count_in_bounds = search rules; plain_run = plain_early c.args.start c.args.count _ c.requires.start_bound c.requires.count_bound c.least_usize-first.ensures _ _ p.0; plain_amplitude = p.1 }
 
 pub write_run-requires : goal.write_run-requires
 write_run-requires c =
     let is_least = c.least_usize-first.ensures in
-    let p = c.requires.1.1.1 in (
-      search rules,
-      (
-        search rules,
-        (search rules, (plain_late c.args.start c.args.count _ c.requires.start_bound c.requires.count_bound is_least _ _ p.0, p.1)),
-      ),
-    )
+    let p = c.requires.1.1.1 in record { count_bound = search rules; count_bound_2 = search rules; count_in_bounds = search rules; plain_run = plain_late c.args.start c.args.count _ c.requires.start_bound c.requires.count_bound is_least _ _ p.0; plain_amplitude = p.1 }
 
 pub returns : goal.returns
 returns c =
@@ -30,4 +18,4 @@ returns c =
     let is_write_run = c.write_run-early.ensures in
     written_runs c.args.start c.args.count _ c.requires.start_bound c.requires.count_bound is_least
     _ _ _ _ _ _ _ _ c.requires.count_in_bounds
-    is_write_run.0 is_write_run.1 c.write_run.ensures.errors c.write_run.ensures.written
+    is_write_run.errors is_write_run.written c.write_run.ensures.errors c.write_run.ensures.written

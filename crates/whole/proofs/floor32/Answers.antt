@@ -5,10 +5,10 @@ use Rattle.whole.specs.Whole.{downward}
 use Rattle.whole.specs.Fractions.{fraction_of}
 use Rattle.whole.specs.declared.Fraction.TheVariants.{Parts}
 use Rattle.whole.proofs.ToWhole.{down_is, down_le, made_nothing, made_parts, parts_bounded}
-use Rattle.whole.proofs.floor32.Goals as goal
 use Rattle.whole.proofs.floor32.Lts as lts
-use Rattle.whole.proofs.floor32.Tie as tie
 use Rattle.whole.proofs.floor32.Reads as reads
+use Rattle.whole.proofs.floor32.Tie as tie
+use Rattle.whole.proofs.floor32.Goals as goal
 
 -- what is known where the code begins
 abbrev Start : Type 0

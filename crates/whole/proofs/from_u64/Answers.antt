@@ -27,7 +27,7 @@ overflow_mul-n c = let h : c.args.n * c.pow2.result < 2 ^ 64 = subst (λ (x : �
 
 -- the number handed in
 abbrev number : goal.After-shifted → ℕ
-number c = let entry = c.before.before.before.before in entry.args.n
+number c = c.args.n
 
 -- what is kept, as `shifted` gives it
 is_kept : (c : goal.After-shifted) → c.shifted.result ≡ closest (number c * 2 ^ c.wide-z.result) (2 ^ 11)

@@ -6,10 +6,10 @@ use Rattle.whole.specs.Whole.{away}
 use Rattle.whole.specs.Fractions.{fraction_of}
 use Rattle.whole.specs.declared.Fraction.TheVariants.{Parts}
 use Rattle.whole.proofs.ToWhole.{away_is, made_nothing, made_parts, parts_bounded}
-use Rattle.whole.proofs.round.Goals as goal
 use Rattle.whole.proofs.round.Lts as lts
-use Rattle.whole.proofs.round.Tie as tie
 use Rattle.whole.proofs.round.Reads as reads
+use Rattle.whole.proofs.round.Tie as tie
+use Rattle.whole.proofs.round.Goals as goal
 
 -- what is known where the code begins
 abbrev Start : Type 0

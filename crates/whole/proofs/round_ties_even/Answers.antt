@@ -5,10 +5,10 @@ use Rattle.whole.specs.Whole.{to_even}
 use Rattle.whole.specs.Fractions.{fraction_of}
 use Rattle.whole.specs.declared.Fraction.TheVariants.{Parts}
 use Rattle.whole.proofs.ToWhole.{even_is, even_le, made_nothing, made_parts, parts_bounded}
-use Rattle.whole.proofs.round_ties_even.Goals as goal
 use Rattle.whole.proofs.round_ties_even.Lts as lts
-use Rattle.whole.proofs.round_ties_even.Tie as tie
 use Rattle.whole.proofs.round_ties_even.Reads as reads
+use Rattle.whole.proofs.round_ties_even.Tie as tie
+use Rattle.whole.proofs.round_ties_even.Goals as goal
 
 -- what is known where the code begins
 abbrev Start : Type 0

@@ -6,7 +6,7 @@ use Rattle.laws.specs.Places.{laid}
 use Rattle.answers.proofs.walk.store.Given as goal
 
 abbrev pub invariant-loop-s : goal.invariant-loop-s
-invariant-loop-s l = (l.s ≤ 64) × (l.parents ≡ laid (λ k. get_or l.from k 0) l.initial.parents l.s l.write)
+invariant-loop-s l = (l.s ≤ 64) × (l.parents ≡ laid (λ k. get_or l.row k 0) l.from l.s l.initial.parents)
 
 abbrev pub decreases-loop-s : goal.decreases-loop-s
 decreases-loop-s l = 64 - l.s

@@ -6,27 +6,27 @@ use Rattle.decisions.proofs.link.link.Goals as goal
 pub oldest-last-requires : goal.oldest-last-requires
 oldest-last-requires c =
     let given = c.requires in
-    given.0.state.carrier.detector.skeleton.place.write
+    given.given_row.state.carrier.detector.skeleton.place.write
 
 pub step-s-requires : goal.step-s-requires
 step-s-requires c =
     let given = c.requires in
-    given.0.state
+    given.given_row.state
 
 pub offset_bounds-records-slot : goal.offset_bounds-records-slot
 offset_bounds-records-slot c =
     let given = c.requires in
-    search (rules, given.0.state.carrier.detector.skeleton.place.write)
+    search (rules, given.given_row.state.carrier.detector.skeleton.place.write)
 
 pub bounds-records-slot : goal.bounds-records-slot
 bounds-records-slot c =
     let given = c.requires in
-    search (rules, given.0.state.carrier.detector.skeleton.place.write)
+    search (rules, given.given_row.state.carrier.detector.skeleton.place.write)
 
 pub put-requires : goal.put-requires
 put-requires c =
     let given = c.requires in
-    given.1
+    given.at_bound
 
 pub returns : goal.returns
 returns c =

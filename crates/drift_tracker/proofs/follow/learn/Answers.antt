@@ -12,7 +12,7 @@ returns c =
     let symbols = c.regress.ensures in
     let missed = c.miss.ensures in
     let weights = c.weigh.ensures in (
-      taps_learnt _ _ _ _ _ _ _ _ _ _ _ _ symbols missed weights.0 weights.1.0 weights.1.1 _ c.pull.ensures,
-      drift_learnt _ _ _ _ _ _ _ _ _ _ _ _ symbols missed weights.0 weights.1.0 weights.1.1 _ c.pull-2.ensures,
-      inverse_learnt _ _ _ _ _ _ _ _ _ _ _ _ symbols missed weights.0 weights.1.0 weights.1.1 _ _ c.settle_group.ensures,
+      taps_learnt _ _ _ _ _ _ _ _ _ _ _ _ symbols missed weights.gain_after weights.row_after weights.d_after _ c.pull.ensures,
+      drift_learnt _ _ _ _ _ _ _ _ _ _ _ _ symbols missed weights.gain_after weights.row_after weights.d_after _ c.pull-2.ensures,
+      inverse_learnt _ _ _ _ _ _ _ _ _ _ _ _ symbols missed weights.gain_after weights.row_after weights.d_after _ _ c.settle_group.ensures,
     )

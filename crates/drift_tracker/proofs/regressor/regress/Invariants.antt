@@ -7,7 +7,7 @@ use Rattle.drift_tracker.specs.Drift.{parent_of, symbols_of}
 use Rattle.drift_tracker.proofs.regressor.regress.Given as goal
 
 abbrev pub invariant-loop-l : goal.invariant-loop-l
-invariant-loop-l l = (l.l ≤ 16) × (l.u ≡ pairs_from 64 (in_lanes (λ l.l. symbols_of (16 * l.g + l.l) (parent_of l.parents (16 * l.g + l.l)))) (16 * l.initial.u) l.l l.t)
+invariant-loop-l l = (l.l ≤ 16) × (l.u ≡ pairs_from 64 (in_lanes (λ l.l. symbols_of (16 * l.g + l.l) (parent_of l.parents (16 * l.g + l.l)))) (16 * l.t) l.l l.initial.u)
 
 abbrev pub decreases-loop-l : goal.decreases-loop-l
 decreases-loop-l l = 16 - l.l

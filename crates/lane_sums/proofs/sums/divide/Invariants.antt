@@ -7,7 +7,7 @@ use Rattle.lane_sums.specs.LaneLaws.{pairs_to, pairs_from}
 use Rattle.lane_sums.proofs.sums.divide.Given as goal
 
 abbrev pub invariant-loop-l : goal.invariant-loop-l
-invariant-loop-l l = (l.l ≤ 16) × (l.gain ≡ pairs_from 128 (in_lanes (λ l.l. gain_of (row_in l.v l.l) (real_in l.d l.l))) (16 * l.initial.gain) l.l l.i)
+invariant-loop-l l = (l.l ≤ 16) × (l.gain ≡ pairs_from 128 (in_lanes (λ l.l. gain_of (row_in l.v l.l) (real_in l.d l.l))) (16 * l.i) l.l l.initial.gain)
 
 abbrev pub decreases-loop-l : goal.decreases-loop-l
 decreases-loop-l l = 16 - l.l

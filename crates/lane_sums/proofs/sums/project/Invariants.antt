@@ -7,7 +7,7 @@ use Rattle.lane_sums.specs.LaneLaws.{pairs_to, pairs_from}
 use Rattle.lane_sums.proofs.sums.project.Given as goal
 
 abbrev pub invariant-loop-l : goal.invariant-loop-l
-invariant-loop-l l = (l.l ≤ 16) × (l.v ≡ pairs_from 128 (in_lanes (λ l.l. projected_of (inverse_in l.w l.l) (four_in l.u l.l))) (16 * l.initial.v) l.l l.i)
+invariant-loop-l l = (l.l ≤ 16) × (l.v ≡ pairs_from 128 (in_lanes (λ l.l. projected_of (inverse_in l.w l.l) (four_in l.u l.l))) (16 * l.i) l.l l.initial.v)
 
 abbrev pub decreases-loop-l : goal.decreases-loop-l
 decreases-loop-l l = 16 - l.l

@@ -14,7 +14,4 @@ returns-then-is_whole c = record { same = count_on _ _ _ _ _ _ _ c.is_whole.ensu
 
 pub returns : goal.returns
 returns c =
-    (
-      count_cut _ _ _ _ _ _ c.is_whole.ensures c.if-is_whole.false c.refused.ensures.same,
-      (c.refused.ensures.near, (c.refused.ensures.kept, refused_moves Count _ _ _ c.refused.result _ _ c.refused.ensures.same (omega arith))),
-    )
+    record { same = count_cut _ _ _ _ _ _ c.is_whole.ensures c.if-is_whole.false c.refused.ensures.same; near = c.refused.ensures.near; kept = c.refused.ensures.kept; on = refused_moves Count _ _ _ c.refused.result _ _ c.refused.ensures.same (omega arith) }

@@ -10,7 +10,4 @@ returns-then-is_whole c =
 
 pub returns : goal.returns
 returns c =
-    (
-      end_more _ _ _ _ _ _ c.is_whole.ensures c.if-is_whole.false c.refused.ensures.same,
-      (omega (arith, c.refused.ensures.near), (c.refused.ensures.kept, refused_moves End _ _ _ c.refused.result _ _ c.refused.ensures.same (omega arith))),
-    )
+    record { same = end_more _ _ _ _ _ _ c.is_whole.ensures c.if-is_whole.false c.refused.ensures.same; near = omega (arith, c.refused.ensures.near); kept = c.refused.ensures.kept; on = refused_moves End _ _ _ c.refused.result _ _ c.refused.ensures.same (omega arith) }

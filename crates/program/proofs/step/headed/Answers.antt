@@ -10,7 +10,4 @@ returns-then-head_is_good c = record { same = head_on _ _ _ _ _ c.head_is_good.e
 
 pub returns : goal.returns
 returns c =
-    (
-      head_off _ _ _ _ _ _ c.head_is_good.ensures c.if-head_is_good.false c.refused.ensures.same,
-      (c.refused.ensures.near, (c.refused.ensures.kept, refused_moves Head _ _ _ c.refused.result _ _ c.refused.ensures.same (omega arith))),
-    )
+    record { same = head_off _ _ _ _ _ _ c.head_is_good.ensures c.if-head_is_good.false c.refused.ensures.same; near = c.refused.ensures.near; kept = c.refused.ensures.kept; on = refused_moves Head _ _ _ c.refused.result _ _ c.refused.ensures.same (omega arith) }

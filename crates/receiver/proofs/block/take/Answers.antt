@@ -12,10 +12,10 @@ use Rattle.receiver.specs.Block.{Rooms, one}
 use Rattle.receiver.specs.Accepted.{take_asks, take_total}
 use Rattle.receiver.specs.BlockLaws.{none_lent, run_asks, ended_one, taken_one, take_refused}
 use borrow.Author.Rules.{rules}
-use Rattle.receiver.proofs.block.take.Goals as goal
 use Rattle.receiver.proofs.block.take.Lts as lts
-use Rattle.receiver.proofs.block.take.Tie as tie
 use Rattle.receiver.proofs.block.take.Reads as reads
+use Rattle.receiver.proofs.block.take.Tie as tie
+use Rattle.receiver.proofs.block.take.Goals as goal
 
 -- what is known where the code begins
 abbrev Start : Type 0

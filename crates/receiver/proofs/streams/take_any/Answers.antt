@@ -11,10 +11,10 @@ use Rattle.receiver.specs.Block.{Rooms, rooms_of}
 use Rattle.receiver.specs.Accepted.{take_asks, take_total}
 use Rattle.receiver.specs.BlockLaws.{run_asks, judged_rooms, ended_both, taken_is, take_refused}
 use borrow.Author.Rules.{rules}
-use Rattle.receiver.proofs.streams.take_any.Goals as goal
 use Rattle.receiver.proofs.streams.take_any.Lts as lts
-use Rattle.receiver.proofs.streams.take_any.Tie as tie
 use Rattle.receiver.proofs.streams.take_any.Reads as reads
+use Rattle.receiver.proofs.streams.take_any.Tie as tie
+use Rattle.receiver.proofs.streams.take_any.Goals as goal
 
 -- what is known where the code begins
 abbrev Start : Type 0

@@ -9,4 +9,4 @@ returns c =
     let field_says = c.field-a.ensures in
     let field2_says = c.field-b.ensures in
     let field3_says = c.field-c.ensures in
-    record { same = closing_put _ _ _ _ _ _ _ flag_says field_says.0 field2_says.0 field3_says.0 c.field.ensures.same; near = search rules; kept = search rules }
+    record { same = closing_put _ _ _ _ _ _ _ flag_says field_says.same field2_says.same field3_says.same c.field.ensures.same; near = search rules; kept = search rules }

@@ -6,7 +6,7 @@ use Rattle.recording.specs.TextLaws.{partly}
 use Rattle.recording.proofs.text.copied.Given as goal
 
 abbrev pub invariant-loop-i : goal.invariant-loop-i
-invariant-loop-i l = (l.i ≤ length l.text) × (length l.out ≡ length l.at) × (l.out ≡ partly l.at l.initial.out l.text l.i)
+invariant-loop-i l = (l.i ≤ length l.text) × (length l.out ≡ length l.initial.out) × (l.out ≡ partly l.initial.out l.at l.text l.i)
 
 abbrev pub decreases-loop-i : goal.decreases-loop-i
 decreases-loop-i l = length l.text - l.i

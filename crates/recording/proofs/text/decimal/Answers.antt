@@ -15,4 +15,4 @@ returns c =
     let decimal_gives = c.decimal-k.result in
     let decimal_left = c.decimal-k.new in
     let decimal_says = c.decimal-k.ensures in
-    c.copied.ensures ∙ put_same _ _ _ (spelled n decimal_gives decimal_left.1.0 decimal_says.1.0 decimal_says.1.1)
+    c.copied.ensures ∙ put_same _ _ _ (spelled n decimal_gives decimal_left.1.0 decimal_says.len decimal_says.)

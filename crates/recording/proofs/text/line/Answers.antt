@@ -7,4 +7,4 @@ pub returns : goal.returns
 returns c =
     let byte_says = c.byte-a.ensures in
     let byte2_says = c.byte-b.ensures in
-    record { same = line_put _ _ _ _ _ _ _ byte_says.0 byte2_says.0 c.byte.ensures.same; near = search rules; kept = search rules }
+    record { same = line_put _ _ _ _ _ _ _ byte_says.same byte2_says.same c.byte.ensures.same; near = search rules; kept = search rules }

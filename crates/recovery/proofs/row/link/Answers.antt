@@ -5,12 +5,12 @@ use Rattle.recovery.proofs.row.link.Goals as goal
 pub step-s-requires : goal.step-s-requires
 step-s-requires c =
     let asked = c.requires in
-    record { given = asked.0.state; sizes_value = asked.1 }
+    record { given = asked.given_row.state; sizes_value = asked.sizes_value }
 
 pub put-count-requires : goal.put-count-requires
 put-count-requires c =
     let asked = c.requires in
-    asked.0.symbols
+    asked.given_row.symbols
 
 pub returns : goal.returns
 returns c =

@@ -25,13 +25,13 @@ link-t-requires c =
     let asked = c.requires in
     let so_far = c.loop-i.invariant in
     let more = c.loop-i-test in
-    record { given_row = row_asks _ _ _ _ _ _ _ _ asked.0 so_far.2 (omega (arith, more)); sizes_value = so_far.1 }
+    record { given_row = row_asks _ _ _ _ _ _ _ _ asked.given_row so_far.2 (omega (arith, more)); sizes_value = so_far.1 }
 
 pub overflow_add-i : goal.overflow_add-i
 overflow_add-i c =
     let more = c.loop-i-test in
     let asked = c.requires in
-    record { fits = omega (arith, more, asked.1.0) }
+    record { fits = omega (arith, more, asked.made_bound) }
 
 pub loop-i-smaller : goal.loop-i-smaller
 loop-i-smaller c =

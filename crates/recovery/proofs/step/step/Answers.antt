@@ -6,7 +6,7 @@ use Rattle.recovery.proofs.step.step.Goals as goal
 pub keep-k-requires : goal.keep-k-requires
 keep-k-requires c =
     let asked = c.requires in
-    record { head_bound = asked.0.keeper.head; real_len = asked.0.keeper.real_size; imaginary_len = asked.0.keeper.imaginary_size; sizes_value = asked.1 }
+    record { head_bound = asked.given.keeper.head; real_len = asked.given.keeper.real_size; imaginary_len = asked.given.keeper.imaginary_size; sizes_value = asked.sizes_value }
 
 pub returns-in_default : goal.returns-in_default
 returns-in_default c = (stepped_filling _ _ _ _ _ c.keep-k.ensures.same c.enum_told-1.given.1, c.keep-k.ensures.envelopes)
@@ -14,13 +14,13 @@ returns-in_default c = (stepped_filling _ _ _ _ _ c.keep-k.ensures.same c.enum_t
 pub step-t-requires : goal.step-t-requires
 step-t-requires c =
     let asked = c.requires in
-    record { admitted = asked.0.clock; given = search rules }
+    record { admitted = asked.given.clock; given = search rules }
 
 pub returns-in_default-due : goal.returns-in_default-due
 returns-in_default-due c =
     let is_kept = c.keep-k.ensures in
     let is_level = c.level-1.given.1 in
-    (stepped_waiting _ _ _ _ _ is_kept.0 _ _ is_level _ c.step-t.ensures.same c.enum_told-in_default-due-1.given.1, is_kept.1)
+    (stepped_waiting _ _ _ _ _ is_kept.same _ _ is_level _ c.step-t.ensures.same c.enum_told-in_default-due-1.given.1, is_kept.envelopes)
 
 pub returns : goal.returns
 returns c =
@@ -28,4 +28,4 @@ returns c =
     let is_level = c.level-1.given.1 in
     let is_clocked = c.step-t.ensures in
     let is_due = c.enum_told-in-Symbol-1.given.1 in
-    (stepped_here _ _ _ _ _ is_kept.0 _ _ is_level _ is_clocked.0 _ _ _ _ is_due c.equalize-e.ensures c.update-turned.ensures, is_kept.1)
+    (stepped_here _ _ _ _ _ is_kept.same _ _ is_level _ is_clocked.same _ _ _ _ is_due c.equalize-e.ensures c.update-turned.ensures, is_kept.envelopes)

@@ -3,7 +3,7 @@ use Rattle.std.proofs.Common.{◌≡◌, ◌-◌, ◌≤◌, length}
 use Rattle.replay_receiver.proofs.desk.fill_bytes.Given as goal
 
 abbrev pub invariant-loop-i : goal.invariant-loop-i
-invariant-loop-i l = (l.i ≤ length l.last) × (length l.lent ≡ length l.last)
+invariant-loop-i l = (l.i ≤ length l.initial.lent) × (length l.lent ≡ length l.initial.lent)
 
 abbrev pub decreases-loop-i : goal.decreases-loop-i
-decreases-loop-i l = length l.last - l.i
+decreases-loop-i l = length l.initial.lent - l.i

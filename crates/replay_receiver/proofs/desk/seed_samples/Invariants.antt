@@ -3,7 +3,7 @@ use Rattle.std.proofs.Common.{◌≡◌, ◌-◌, ◌≤◌, length}
 use Rattle.replay_receiver.proofs.desk.seed_samples.Given as goal
 
 abbrev pub invariant-loop-i : goal.invariant-loop-i
-invariant-loop-i l = (l.i ≤ l.initial.floats) × (length l.floats ≡ length l.n)
+invariant-loop-i l = (l.i ≤ l.n) × (length l.floats ≡ length l.initial.floats)
 
 abbrev pub decreases-loop-i : goal.decreases-loop-i
-decreases-loop-i l = l.initial.floats - l.i
+decreases-loop-i l = l.n - l.i

@@ -15,5 +15,5 @@ returns c =
     let pushed = c.pushed-q in
     let delivered = c.delivered-d in
     let stored : T (fits binary64 c.args.r.next) = passes _ c.well_formed.0.1.1.1.1.1.1.0.1 in record { same = resampled_is c.args.r c.requires.admitted stored c.requires.index_bound pushed.result pushed.ensures.0 c.args.value
-          c.args.table.now c.args.reals.now c.args.imaginaries.now _ _ pushed.ensures.1.0 pushed.ensures.1.1 delivered.result delivered.ensures; kept = (resampled_kept c.args.r c.requires.admitted stored c.requires.index_bound pushed.result pushed.ensures.0 c.args.value
-          c.args.table.now c.args.reals.now c.args.imaginaries.now _ _ pushed.ensures.1.0 pushed.ensures.1.1 delivered.result delivered.ensures, ) }
+          c.args.table.now c.args.reals.now c.args.imaginaries.now _ _ pushed.ensures.1.0 pushed.ensures.1.1 delivered.result delivered.ensures; kept = resampled_kept c.args.r c.requires.admitted stored c.requires.index_bound pushed.result pushed.ensures.0 c.args.value
+          c.args.table.now c.args.reals.now c.args.imaginaries.now _ _ pushed.ensures.1.0 pushed.ensures.1.1 delivered.result delivered.ensures }

@@ -9,7 +9,7 @@ use Rattle.second.proofs.row.run.Goals as goal
 pub loop-i-init : goal.loop-i-init
 loop-i-init c =
     let given = c.requires in
-    (omega arith, given.0.state.detector.memory.inverse_size, given.1.0, row_start _ _ _ _)
+    (omega arith, given.given_link.state.detector.memory.inverse_size, given.odd_len, row_start _ _ _ _)
 
 pub offset_bounds-symbol_real-i : goal.offset_bounds-symbol_real-i
 offset_bounds-symbol_real-i c =
@@ -37,7 +37,7 @@ pub turned-t-requires : goal.turned-t-requires
 turned-t-requires c =
     let given = c.requires in
     let held = c.loop-i.invariant in
-    record { given_link = next_held _ _ _ _ _ _ _ (first_asks _ _ given.0) held.3 held.1; odd_len = held.2; at_bound = omega (arith, c.loop-i-test, given.1.1) }
+    record { given_link = next_held _ _ _ _ _ _ _ (first_asks _ _ given.given_link) held.3 held.1; odd_len = held.2; at_bound = omega (arith, c.loop-i-test, given.count_bound) }
 
 pub overflow_add-i : goal.overflow_add-i
 overflow_add-i c =
@@ -50,10 +50,10 @@ loop-i-smaller c =
 pub loop-i-preserved : goal.loop-i-preserved
 loop-i-preserved c =
     let after = c.turned-t.ensures in
-    (omega (arith, c.loop-i-test), after.1.0, after.1.1, row_step _ _ _ _ _ _ _ after.0 c.loop-i.invariant.3)
+    (omega (arith, c.loop-i-test), after.whole.0, after.whole.1, row_step _ _ _ _ _ _ _ after.leaves_turns c.loop-i.invariant.3)
 
 pub returns : goal.returns
 returns c =
     let given = c.requires in
     let held = c.loop-i.invariant in
-    record { leaves_turns = held_end _ _ _ _ _ _ _ _ _ (first_asks _ _ given.0) held.3 refl held.0 (omega (arith, c.loop-i-test)); whole = (held.1, held.2) }
+    record { leaves_turns = held_end _ _ _ _ _ _ _ _ _ (first_asks _ _ given.given_link) held.3 refl held.0 (omega (arith, c.loop-i-test)); whole = (held.1, held.2) }

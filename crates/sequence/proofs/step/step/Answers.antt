@@ -7,27 +7,27 @@ use Rattle.sequence.proofs.step.step.Goals as goal
 pub advance-best-requires : goal.advance-best-requires
 advance-best-requires c =
     let given = c.requires in
-    (given.0.costs_size, given.1.row_size, given.1.real_size, given.1.imaginary_size)
+    (given.ranged.costs_size, given.roomy.row_size, given.roomy.real_size, given.roomy.imaginary_size)
 
 pub overflow_cast-prior : goal.overflow_cast-prior
 overflow_cast-prior c =
     let advanced = c.advance-best.ensures in
-    omega (arith, advanced.1.1.below _ advanced.1.0)
+    omega (arith, advanced.near.1.below _ advanced.near.0)
 
 pub taps_at-survivor-requires : goal.taps_at-survivor-requires
 taps_at-survivor-requires c =
     let advanced = c.advance-best.ensures in
-    advanced.1.1.below _ advanced.1.0
+    advanced.near.1.below _ advanced.near.0
 
 pub overflow_cast-prior-2 : goal.overflow_cast-prior-2
 overflow_cast-prior-2 c =
     let advanced = c.advance-best.ensures in
-    omega (arith, advanced.1.1.below _ advanced.1.0)
+    omega (arith, advanced.near.1.below _ advanced.near.0)
 
 pub observed-seen-requires : goal.observed-seen-requires
 observed-seen-requires c =
     let advanced = c.advance-best.ensures in
-    advanced.1.1.below _ advanced.1.0
+    advanced.near.1.below _ advanced.near.0
 
 pub store-requires : goal.store-requires
 store-requires c =
@@ -38,8 +38,8 @@ pub walk-walked-requires : goal.walk-walked-requires
 walk-walked-requires c =
     let given = c.requires.ranged in
     let advanced = c.advance-best.ensures in
-    let table = asked_table _ _ _ _ c.store.ensures given.place.write given.parents_size given.table advanced.1.1 in
-    (given.place.write, advanced.1.0, table, given.place.earlier)
+    let table = asked_table _ _ _ _ c.store.ensures given.place.write given.parents_size given.table advanced.near.1 in
+    (given.place.write, advanced.near.0, table, given.place.earlier)
 
 pub reported-requires : goal.reported-requires
 reported-requires c = let given = c.requires.ranged in given.place.write
@@ -51,4 +51,4 @@ returns c =
     let survivor = c.taps_at-survivor.ensures in
     let seen = c.observed-seen.ensures in
     let stored = c.store.ensures in
-    step_meets _ _ _ _ _ _ _ _ _ _ _ _ _ _ _ _ advanced.0 survivor seen stored c.walk-walked.ensures c.reported.ensures given
+    step_meets _ _ _ _ _ _ _ _ _ _ _ _ _ _ _ _ advanced.reads survivor seen stored c.walk-walked.ensures c.reported.ensures given

@@ -12,7 +12,7 @@ abbrev pub decreases-loop-m : goal.decreases-loop-m
 decreases-loop-m l = 4 - l.m
 
 abbrev pub invariant-loop-l : goal.invariant-loop-l
-invariant-loop-l l = (l.l ≤ 16) × (length l.next ≡ 8192) × (l.next ≡ swept (lane_turn l.g) l.l (renewed_number l.w l.gain l.row l.den) l.m)
+invariant-loop-l l = (l.l ≤ 16) × (length l.next ≡ 8192) × (l.next ≡ swept (lane_turn l.g) l.l (renewed_number l.w l.gain l.row l.den) l.initial.next)
 
 abbrev pub decreases-loop-l : goal.decreases-loop-l
 decreases-loop-l l = 16 - l.l

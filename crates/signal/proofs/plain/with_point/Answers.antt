@@ -12,4 +12,4 @@ pub returns : goal.returns
 returns c =
     let is_y = c.no_nan-b.ensures in
     let is_x = c.no_nan-a.ensures in
-    rw (c.least-2.ensures, c.span-2.ensures, c.least.ensures, c.span.ensures, is_y.0, is_x.0)
+    rw (c.least-2.ensures, c.span-2.ensures, c.least.ensures, c.span.ensures, is_y.same, is_x.same)

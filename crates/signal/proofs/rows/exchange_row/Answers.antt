@@ -30,11 +30,11 @@ loop-j-preserved c =
     let a = c.args in
     let v = c.loop-j.invariant in
     let w = c.write_point-sum.ensures in
-    let r = exchange_turn a.real.now a.imaginary.now a.amplitude a.next _ _ _ v.3 more _ _ _ _ _ _ _ v.4 v.5 w.0 w.1 in (
+    let r = exchange_turn a.real.now a.imaginary.now a.amplitude a.next _ _ _ v.3 more _ _ _ _ _ _ _ v.4 v.5 w.errors w.written in (
       search rules,
       simp length-set v.1,
       search rules,
-      rw (is_quotient2.0, is_quotient.0) (turns_step _ _ _ _ v.3),
+      rw (is_quotient2.same, is_quotient.same) (turns_step _ _ _ _ v.3),
       r.0,
       r.1,
     )

@@ -7,10 +7,10 @@ use Rattle.signal.proofs.rows.exchange_row.Given as goal
 abbrev pub invariant-loop-j : goal.invariant-loop-j
 invariant-loop-j l = (l.j ≤ 32)
     × (length l.row ≡ 64)
-    × (length l.output ≡ length l.initial.row)
-    × (l.row ≡ turns (divide_turn l.real l.imaginary l.amplitude l.next) l.j l.done)
-    × (l.sum ≡ turns (error_turn l.done) l.j l.initial.output)
-    × (l.output ≡ turns (point_turn l.done l.before) l.j l.initial.row)
+    × (length l.output ≡ length l.initial.output)
+    × (l.row ≡ turns (divide_turn l.real l.imaginary l.amplitude l.next) l.j l.initial.row)
+    × (l.sum ≡ turns (error_turn l.initial.row) l.j l.before)
+    × (l.output ≡ turns (point_turn l.initial.row l.done) l.j l.initial.output)
 
 abbrev pub decreases-loop-j : goal.decreases-loop-j
 decreases-loop-j l = 32 - l.j

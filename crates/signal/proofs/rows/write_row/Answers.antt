@@ -18,7 +18,7 @@ loop-j-preserved c =
     let args = c.args in
     let v = c.loop-j.invariant in
     let w = c.write_point-sum.ensures in
-    let r = row_turn args.row.now _ _ _ _ _ _ _ _ v.2 v.3 w.0 w.1 in
+    let r = row_turn args.row.now _ _ _ _ _ _ _ _ v.2 v.3 w.errors w.written in
     (search rules, search rules, r.0, r.1)
 
 pub returns : goal.returns

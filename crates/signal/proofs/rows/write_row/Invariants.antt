@@ -5,7 +5,7 @@ use Rattle.signal.specs.Rows.{error_turn, point_turn}
 use Rattle.signal.proofs.rows.write_row.Given as goal
 
 abbrev pub invariant-loop-j : goal.invariant-loop-j
-invariant-loop-j l = (l.j ≤ l.count) × (length l.output ≡ length l.before) × (l.sum ≡ turns (error_turn l.row) l.j l.initial.output) × (l.output ≡ turns (point_turn l.row l.done) l.j l.before)
+invariant-loop-j l = (l.j ≤ l.count) × (length l.output ≡ length l.initial.output) × (l.sum ≡ turns (error_turn l.row) l.j l.before) × (l.output ≡ turns (point_turn l.row l.done) l.j l.initial.output)
 
 abbrev pub decreases-loop-j : goal.decreases-loop-j
 decreases-loop-j l = l.count - l.j

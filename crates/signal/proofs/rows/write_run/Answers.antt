@@ -19,22 +19,7 @@ pub exchange_row-sum-requires : goal.exchange_row-sum-requires
 exchange_row-sum-requires c =
     let p = c.requires.1.1.1 in
     let at = c.loop-at.at in
-    let d = c.loop-at.invariant.2 in (
-      search rules,
-      (
-        search rules,
-        (
-          search rules,
-          (
-            d.size,
-            (
-              divided_usual _ _ _ _ _ _ (divided_fewer _ _ _ _ _ _ 32 _ d refl (omega arith)) (plain_within _ _ _ _ at _ _ p.0 refl (omega arith)) p.1,
-              (plain_within _ _ _ _ (at + 32) _ _ p.0 (omega arith) (omega arith), p.1),
-            ),
-          ),
-        ),
-      ),
-    )
+    let d = c.loop-at.invariant.2 in record { next_bound = search rules; done_bound = search rules; done_in_bounds = search rules; row_len = d.size; usual_row = divided_usual _ _ _ _ _ _ (divided_fewer _ _ _ _ _ _ 32 _ d refl (omega arith)) (plain_within _ _ _ _ at _ _ p.0 refl (omega arith)) p.1; plain_run = plain_within _ _ _ _ (at + 32) _ _ p.0 (omega arith) (omega arith); plain_amplitude = p.1 }
 
 pub loop-at-preserved : goal.loop-at-preserved
 loop-at-preserved c =
@@ -43,29 +28,20 @@ loop-at-preserved c =
     let v = l.invariant in
     let w = c.exchange_row-sum.ensures in
     let d = divided_fewer _ _ _ _ _ _ 32 _ v.2 refl (omega arith) in
-    let n = divided a.real.now a.imaginary.now a.amplitude (a.from + l.at + 32) 32 _ _ (omega arith) v.2.size w.1.1 in
-    let r = row_on a.real.now a.imaginary.now a.amplitude a.from a.done l.at 32 (l.at + 32) _ d refl _ _ _ _ _ _ v.3 v.4 w.0 w.1.0 in
+    let n = divided a.real.now a.imaginary.now a.amplitude (a.from + l.at + 32) 32 _ _ (omega arith) v.2.size w.divided in
+    let r = row_on a.real.now a.imaginary.now a.amplitude a.from a.done l.at 32 (l.at + 32) _ d refl _ _ _ _ _ _ v.3 v.4 w.errors w.written in
     (search rules, search rules, divided_fewer _ _ _ _ (a.from + (l.at + 32)) _ _ _ n (omega arith) (omega arith), r.0, r.1)
 
 pub write_row-sum-requires : goal.write_row-sum-requires
 write_row-sum-requires c =
     let p = c.requires.1.1.1 in
-    let l = c.loop-at in (
-      search rules,
-      (search rules, (search rules, divided_usual _ _ _ _ _ _ l.invariant.2 (plain_within _ _ _ _ l.at _ _ p.0 refl l.invariant.0) p.1)),
-    )
+    let l = c.loop-at in record { count_bound = search rules; count_bound_2 = search rules; count_in_bounds = search rules; usual_row = divided_usual _ _ _ _ _ _ l.invariant.2 (plain_within _ _ _ _ l.at _ _ p.0 refl l.invariant.0) p.1 }
 
 pub divide_row-requires-2 : goal.divide_row-requires-2
 divide_row-requires-2 c =
     let first = c.least_usize-first.result in
     let p = c.requires.1.1.1 in
-    let l = c.loop-at in (
-      search rules,
-      (
-        search rules,
-        (l.invariant.2.size, (plain_within _ _ _ _ (l.at + first) _ _ p.0 refl (omega arith), p.1)),
-      ),
-    )
+    let l = c.loop-at in record { count_bound = search rules; count_bound_2 = search rules; row_len = l.invariant.2.size; plain_run = plain_within _ _ _ _ (l.at + first) _ _ p.0 refl (omega arith); plain_amplitude = p.1 }
 
 pub write_row-requires : goal.write_row-requires
 write_row-requires c =
@@ -74,10 +50,7 @@ write_row-requires c =
     let p = c.requires.1.1.1 in
     let l = c.loop-at in
     let at = l.at + first in
-    let d = divided a.real.now a.imaginary.now a.amplitude (a.from + at) (a.count - at) _ _ (omega arith) l.invariant.2.size c.divide_row-2.ensures in (
-      search rules,
-      (search rules, (search rules, divided_usual _ _ _ _ _ _ d (plain_within _ _ _ _ at _ _ p.0 refl (omega arith)) p.1)),
-    )
+    let d = divided a.real.now a.imaginary.now a.amplitude (a.from + at) (a.count - at) _ _ (omega arith) l.invariant.2.size c.divide_row-2.ensures in record { count_bound = search rules; count_bound_2 = search rules; count_in_bounds = search rules; usual_row = divided_usual _ _ _ _ _ _ d (plain_within _ _ _ _ at _ _ p.0 refl (omega arith)) p.1 }
 
 pub returns : goal.returns
 returns c =
@@ -90,6 +63,6 @@ returns c =
     let d = divided a.real.now a.imaginary.now a.amplitude (a.from + at) (a.count - at) _ _ (omega arith) v.2.size is_divide_row2 in
     let e : at + (a.count - at) ≡ a.count = omega arith in
     let w = c.write_row-sum.ensures in
-    let r = row_on a.real.now a.imaginary.now a.amplitude a.from a.done l.at first at _ v.2 refl _ _ _ _ _ _ v.3 v.4 w.0 w.1 in
+    let r = row_on a.real.now a.imaginary.now a.amplitude a.from a.done l.at first at _ v.2 refl _ _ _ _ _ _ v.3 v.4 w.errors w.written in
     let z = c.write_row.ensures in
-    row_on a.real.now a.imaginary.now a.amplitude a.from a.done at (a.count - at) a.count _ d e _ _ _ _ _ _ r.0 r.1 z.0 z.1
+    row_on a.real.now a.imaginary.now a.amplitude a.from a.done at (a.count - at) a.count _ d e _ _ _ _ _ _ r.0 r.1 z.errors z.written

@@ -7,11 +7,11 @@ use Rattle.signal.specs.RowLaws.{Divided}
 use Rattle.signal.proofs.rows.write_run.Given as goal
 
 abbrev pub invariant-loop-at : goal.invariant-loop-at
-invariant-loop-at l = (l.at + l.initial.row ≤ l.count)
-    × (length l.output ≡ length l.before)
-    × Divided l.real l.imaginary l.amplitude (l.from + l.at) l.initial.row l.row
-    × (l.sum ≡ turns (run_of (sum_step l.real l.imaginary (error_at l.amplitude)) l.from l.done) l.at l.first)
-    × (l.output ≡ turns (run_of (write_step l.real l.imaginary l.amplitude) l.from l.done) l.at l.before)
+invariant-loop-at l = (l.at + l.first ≤ l.count)
+    × (length l.output ≡ length l.initial.output)
+    × Divided l.real l.imaginary l.amplitude (l.from + l.at) l.first l.row
+    × (l.sum ≡ turns (run_of (sum_step l.real l.imaginary (error_at l.amplitude)) l.from l.done) l.at l.before)
+    × (l.output ≡ turns (run_of (write_step l.real l.imaginary l.amplitude) l.from l.done) l.at l.initial.output)
 
 abbrev pub decreases-loop-at : goal.decreases-loop-at
 decreases-loop-at l = l.count - l.at

@@ -3,7 +3,7 @@ use Rattle.std.proofs.Common.{◌-◌, ◌*◌, ◌<◌, ◌≤◌, length}
 use Rattle.story.proofs.decimated.beside.Given as goal
 
 abbrev pub invariant-loop-i : goal.invariant-loop-i
-invariant-loop-i l = (l.i ≤ l.initial.unlike) × (2 * l.initial.unlike ≤ length l.samples) × (l.a.counter < l.a.decimation) × (l.b.counter < l.b.decimation)
+invariant-loop-i l = (l.i ≤ l.n) × (2 * l.n ≤ length l.samples) × (l.a.counter < l.a.decimation) × (l.b.counter < l.b.decimation)
 
 abbrev pub decreases-loop-i : goal.decreases-loop-i
-decreases-loop-i l = l.initial.unlike - l.i
+decreases-loop-i l = l.n - l.i

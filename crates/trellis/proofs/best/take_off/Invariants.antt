@@ -6,7 +6,7 @@ use Rattle.trellis.specs.Laws.{off_turn}
 use Rattle.trellis.proofs.best.take_off.Given as goal
 
 abbrev pub invariant-loop-s : goal.invariant-loop-s
-invariant-loop-s l = (l.s ≤ 64) × (l.costs ≡ turns (off_turn l.initial.costs) l.s l.least)
+invariant-loop-s l = (l.s ≤ 64) × (l.costs ≡ turns (off_turn l.least) l.s l.initial.costs)
 
 abbrev pub decreases-loop-s : goal.decreases-loop-s
 decreases-loop-s l = 64 - l.s

@@ -7,4 +7,4 @@ cheapest-b-requires c = advance_asks _ _ _ _ _ c.extend.ensures.reads.0 c.extend
 
 pub returns : goal.returns
 returns c =
-    let arrived = c.extend.ensures.reads in record { reads = advance_is _ _ _ _ _ _ _ _ _ _ arrived.0 arrived.1 arrived.2 arrived.3 c.cheapest-b.ensures c.take_off.ensures; near = (advance_near _ _ _ _ _ _ _ arrived.1 c.cheapest-b.ensures, ) }
+    let arrived = c.extend.ensures.reads in record { reads = advance_is _ _ _ _ _ _ _ _ _ _ arrived.0 arrived.1 arrived.2 arrived.3 c.cheapest-b.ensures c.take_off.ensures; near = advance_near _ _ _ _ _ _ _ arrived.1 c.cheapest-b.ensures }

@@ -15,13 +15,13 @@ loop-k-preserved c =
     let laid = c.loop-k.invariant in
     let swept = c.sweep.ensures in (
       search rules,
-      swept.1.0,
-      swept.1.1,
-      swept.1.2,
-      tiers_step _ _ _ _ _ swept.0.0 laid.4,
-      tiers_step _ _ _ _ _ swept.0.1 laid.5,
-      tiers_step _ _ _ _ _ swept.0.2 laid.6,
-      tiers_step _ _ _ _ _ swept.0.3 laid.7,
+      swept.sums_len.0,
+      swept.sums_len.1,
+      swept.sums_len.2,
+      tiers_step _ _ _ _ _ swept.reads.0 laid.4,
+      tiers_step _ _ _ _ _ swept.reads.1 laid.5,
+      tiers_step _ _ _ _ _ swept.reads.2 laid.6,
+      tiers_step _ _ _ _ _ swept.reads.3 laid.7,
     )
 
 pub interleave_priors-requires : goal.interleave_priors-requires
@@ -40,4 +40,4 @@ returns c =
         extend_is (λ b. b.prior) 0 _ _ _ _ _ _ _ _ _ past.0 past.1 laid.5 (search rules) (search rules) refl priors,
         extend_is (λ b. b.real) nan _ _ _ _ _ _ _ _ _ past.0 past.1 laid.6 (search rules) (search rules) refl c.interleave-2.ensures,
         extend_is (λ b. b.imaginary) nan _ _ _ _ _ _ _ _ _ past.0 past.1 laid.7 (search rules) (search rules) refl c.interleave-3.ensures,
-      ); values = (record { value = values }, ) }
+      ); values = record { value = values } }
