@@ -4,19 +4,9 @@ use Rattle.chain.specs.Ranges.{Ranged}
 use Rattle.second.specs.Second.{second_of}
 use Rattle.replay_chain.proofs.run.Given as goal
 
--- TODO
-abbrev invariant_loop : tie.invariant-loop
-invariant_loop rows has both keeper_real₀ keeper_imaginary₀ clock_real₀ clock_imaginary₀ weight_real₀ weight_imaginary₀ channel_real₀ channel_imaginary₀ costs₀
-    parents₀ view_real₀ view_imaginary₀ memory₀ ancestors₀ row_real₀ row_imaginary₀ p₀ records₀ second₀ left₀ keeper_real keeper_imaginary clock_real
-    clock_imaginary weight_real weight_imaginary channel_real channel_imaginary costs parents view_real view_imaginary memory ancestors row_real row_imaginary p
-    records second left =
-    Ranged (state_of p keeper_real keeper_imaginary clock_real clock_imaginary weight_real weight_imaginary channel_real channel_imaginary costs parents view_real
-    view_imaginary (second_of second memory ancestors))
+abbrev pub invariant-loop-left : goal.invariant-loop-left
+invariant-loop-left l = Ranged (state_of l.p l.keeper_real l.keeper_imaginary l.clock_real l.clock_imaginary l.weight_real l.weight_imaginary l.channel_real l.channel_imaginary l.costs l.parents l.view_real
+    l.view_imaginary (second_of l.second l.memory l.ancestors))
 
--- TODO
-abbrev decreases_loop : tie.decreases-loop
-decreases_loop rows has both keeper_real₀ keeper_imaginary₀ clock_real₀ clock_imaginary₀ weight_real₀ weight_imaginary₀ channel_real₀ channel_imaginary₀ costs₀ parents₀
-    view_real₀ view_imaginary₀ memory₀ ancestors₀ row_real₀ row_imaginary₀ p₀ records₀ second₀ left₀ keeper_real keeper_imaginary clock_real clock_imaginary
-    weight_real weight_imaginary channel_real channel_imaginary costs parents view_real view_imaginary memory ancestors row_real row_imaginary p records second
-    left =
-    left
+abbrev pub decreases-loop-left : goal.decreases-loop-left
+decreases-loop-left l = l.left

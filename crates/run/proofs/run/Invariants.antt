@@ -5,23 +5,13 @@ use lib.ListN.{length}
 use Rattle.run.specs.Run.{whole_now, Going}
 use Rattle.run.proofs.run.Given as goal
 
--- TODO
-abbrev invariant_loop : tie.invariant-loop
-invariant_loop conjugated samples table ring_real₀ ring_imaginary₀ keeper_real₀ keeper_imaginary₀ clock_real₀ clock_imaginary₀ weight_real₀ weight_imaginary₀ channel_real₀
-    channel_imaginary₀ costs₀ parents₀ view_real₀ view_imaginary₀ memory₀ ancestors₀ dibits₀ reliabilities₀ others₀ other_reliabilities₀ both n row_real₀ row_imaginary₀ t₀ ring_real
-    ring_imaginary keeper_real keeper_imaginary clock_real clock_imaginary weight_real weight_imaginary channel_real channel_imaginary costs parents view_real view_imaginary memory
-    ancestors dibits reliabilities others other_reliabilities row_real row_imaginary t =
-    (length row_real ≡ 256) × (length row_imaginary ≡ 256) × (length memory ≡ length memory₀)
-    × Going conjugated table samples
-    (whole_now t₀ ring_real₀ ring_imaginary₀ keeper_real₀ keeper_imaginary₀ clock_real₀ clock_imaginary₀ weight_real₀ weight_imaginary₀ channel_real₀ channel_imaginary₀ costs₀ parents₀
-    view_real₀ view_imaginary₀ memory₀ ancestors₀ dibits₀ reliabilities₀ others₀ other_reliabilities₀)
-    (whole_now t ring_real ring_imaginary keeper_real keeper_imaginary clock_real clock_imaginary weight_real weight_imaginary channel_real channel_imaginary costs parents view_real
-    view_imaginary memory ancestors dibits reliabilities others other_reliabilities)
+abbrev pub invariant-loop-t : goal.invariant-loop-t
+invariant-loop-t l = (length l.row_real ≡ 256) × (length l.row_imaginary ≡ 256) × (length l.memory ≡ length l.initial.memory)
+    × Going l.conjugated l.table l.samples
+    (whole_now l.initial.t l.initial.ring_real l.initial.ring_imaginary l.initial.keeper_real l.initial.keeper_imaginary l.initial.clock_real l.initial.clock_imaginary l.initial.weight_real l.initial.weight_imaginary l.initial.channel_real l.initial.channel_imaginary l.initial.costs l.initial.parents
+    l.initial.view_real l.initial.view_imaginary l.initial.memory l.initial.ancestors l.initial.dibits l.initial.reliabilities l.initial.others l.initial.other_reliabilities)
+    (whole_now l.t l.ring_real l.ring_imaginary l.keeper_real l.keeper_imaginary l.clock_real l.clock_imaginary l.weight_real l.weight_imaginary l.channel_real l.channel_imaginary l.costs l.parents l.view_real
+    l.view_imaginary l.memory l.ancestors l.dibits l.reliabilities l.others l.other_reliabilities)
 
--- TODO
-abbrev decreases_loop : tie.decreases-loop
-decreases_loop conjugated samples table ring_real₀ ring_imaginary₀ keeper_real₀ keeper_imaginary₀ clock_real₀ clock_imaginary₀ weight_real₀ weight_imaginary₀ channel_real₀
-    channel_imaginary₀ costs₀ parents₀ view_real₀ view_imaginary₀ memory₀ ancestors₀ dibits₀ reliabilities₀ others₀ other_reliabilities₀ both n row_real₀ row_imaginary₀ t₀ ring_real
-    ring_imaginary keeper_real keeper_imaginary clock_real clock_imaginary weight_real weight_imaginary channel_real channel_imaginary costs parents view_real view_imaginary memory
-    ancestors dibits reliabilities others other_reliabilities row_real row_imaginary t =
-    length samples / 2 - t.from
+abbrev pub decreases-loop-t : goal.decreases-loop-t
+decreases-loop-t l = length l.samples / 2 - l.t.from

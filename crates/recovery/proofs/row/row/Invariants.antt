@@ -6,18 +6,12 @@ use Rattle.recovery.specs.Recovery.{state_of}
 use Rattle.recovery.specs.Rows.{Lent, row_of}
 use Rattle.recovery.proofs.row.row.Given as goal
 
--- TODO
-abbrev invariant_loop : tie.invariant-loop
-invariant_loop row_real row_imaginary made taps derivatives sizes₀ keeper_real₀ keeper_imaginary₀ clock_real₀ clock_imaginary₀ weight_real₀ weight_imaginary₀ symbol_real₀ symbol_imaginary₀ reliable₀ t₀ i₀
-    sizes keeper_real keeper_imaginary clock_real clock_imaginary weight_real weight_imaginary symbol_real symbol_imaginary reliable t i =
-    (i ≤ made) × (sizes ≡ envelopes_of keeper_real keeper_imaginary)
+abbrev pub invariant-loop-i : goal.invariant-loop-i
+invariant-loop-i l = (l.i ≤ l.made) × (l.sizes ≡ envelopes_of l.keeper_real l.keeper_imaginary)
     × (◌≡◌ {A = Lent}
-    (record { state = state_of t.place keeper_real keeper_imaginary clock_real clock_imaginary weight_real weight_imaginary; symbols = record { real = symbol_real; imaginary = symbol_imaginary; reliable = reliable; count = t.count } })
-    (row_of taps derivatives row_real row_imaginary i
-    (record { state = state_of t₀.place keeper_real₀ keeper_imaginary₀ clock_real₀ clock_imaginary₀ weight_real₀ weight_imaginary₀; symbols = record { real = symbol_real₀; imaginary = symbol_imaginary₀; reliable = reliable₀; count = t₀.count } })))
+    (record { state = state_of l.t.place l.keeper_real l.keeper_imaginary l.clock_real l.clock_imaginary l.weight_real l.weight_imaginary; symbols = record { real = l.symbol_real; imaginary = l.symbol_imaginary; l.reliable = l.reliable; count = l.t.count } })
+    (row_of l.taps l.derivatives l.row_real l.row_imaginary l.i
+    (record { state = state_of l.initial.t.place l.initial.keeper_real l.initial.keeper_imaginary l.initial.clock_real l.initial.clock_imaginary l.initial.weight_real l.initial.weight_imaginary; symbols = record { real = l.initial.symbol_real; imaginary = l.initial.symbol_imaginary; l.reliable = l.initial.reliable; count = l.initial.t.count } })))
 
--- TODO
-abbrev decreases_loop : tie.decreases-loop
-decreases_loop row_real row_imaginary made taps derivatives sizes₀ keeper_real₀ keeper_imaginary₀ clock_real₀ clock_imaginary₀ weight_real₀ weight_imaginary₀ symbol_real₀ symbol_imaginary₀ reliable₀ t₀ i₀
-    sizes keeper_real keeper_imaginary clock_real clock_imaginary weight_real weight_imaginary symbol_real symbol_imaginary reliable t i =
-    made - i
+abbrev pub decreases-loop-i : goal.decreases-loop-i
+decreases-loop-i l = l.made - l.i
