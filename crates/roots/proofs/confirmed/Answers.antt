@@ -68,13 +68,13 @@ pub returns : goal.returns
 returns c = λ e.
     let s = c.before.before.before.before.before in
     let first = c.wrapping_sub_u64-first.result in
-    let first_is = c.wrapping_sub_u64-first.ensures in
+    let first_is = c.wrapping_sub_u64-first.ensures.value in
     let last = c.wrapping_sub_u64-last.result in
     let small : first < 2 ^ 30 = omega (arith, c.if-first-ge268435456.false) in
     let cross : h s * l s * 2 < 2 ^ 55 = omega (arith, cross_lt s) in
     let upper : h s * h s < 2 ^ 55 = omega (arith, upper_lt s) in
     seen_half (n s) (q s) first last
     (unwrapped first (n s / 4096 + 1) (h s * h s) first_is small upper)
-    (unwrapped last (first * 0x800_0000 + n s % 4096 * 32768) (h s * l s * 2) c.wrapping_sub_u64-last.ensures c.if-last-ge1073741824.false cross)
+    (unwrapped last (first * 0x800_0000 + n s % 4096 * 32768) (h s * l s * 2) c.wrapping_sub_u64-last.ensures.value c.if-last-ge1073741824.false cross)
     c.if-left-q.false
     (leb→le (last * 0x800_0000) (l s * l s + 2 ^ 54 + q s) (subst T (sym e) tt))

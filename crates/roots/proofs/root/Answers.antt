@@ -64,4 +64,5 @@ pub returns : goal.returns
 returns c =
     let l = c.loop-i in
     let a = c.args in
-    subst (λ (i : ℕ). (l.q * l.q * 2 ^ 64 ≤ a.n * 2 ^ (i + i)) × (a.n * 2 ^ (i + i) < (l.q + 1) * (l.q + 1) * 2 ^ 64)) (le_antisymm l.invariant.0 c.loop-i-test.false) (digits_root a.n l.i l.q l.rem l.rest l.invariant.1)
+    let both = subst (λ (i : ℕ). (l.q * l.q * 2 ^ 64 ≤ a.n * 2 ^ (i + i)) × (a.n * 2 ^ (i + i) < (l.q + 1) * (l.q + 1) * 2 ^ 64)) (le_antisymm l.invariant.0 c.loop-i-test.false) (digits_root a.n l.i l.q l.rem l.rest l.invariant.1) in
+    record { least = both.0; most = both.1 }

@@ -56,10 +56,10 @@ module _ (c : goal.After-root-w) where
   a = c.before.before
 
   abbrev p : ℕ
-  p = a.before.args.p
+  p = a.args.p
 
   abbrev z : ℕ
-  z = a.wide.result
+  z = a.wide-z.result
 
   even : (p + 165 - y a) / 2 + (p + 165 - y a) / 2 + y a ≡ p + 165
   even = even_32 p z (leads a).least (leads a).most
@@ -68,7 +68,7 @@ module _ (c : goal.After-root-w) where
   half = half_le binary32 (d c) p z (w c) ((p + z + 1) % 2) ((p + 165 - y a) / 2) 165 (leads a) (bit_le (p + z + 1)) even refl (deep_32 z ((p + z + 1) % 2) (tall a) (bit_le (p + z + 1))) (lo c) (hi c)
 
   small : (p + 165 - y a) / 2 * 8388608 + (w c + 1) / 2 < 255 * 8388608
-  small = small_32 p (y a) ((w c + 1) / 2) a.before.pre.1.1 half
+  small = small_32 p (y a) ((w c + 1) / 2) a.requires.p_bound half
 
 -- below the infinity's pattern lies no NaN's
 plain : (q : ℕ) → q < 255 * 8388608 → T (not (nan_bits binary32 q))

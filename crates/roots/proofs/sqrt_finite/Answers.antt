@@ -49,10 +49,10 @@ module _ (c : goal.After-half_root-q) where
   a = c.before.before
 
   abbrev p : ℕ
-  p = a.before.args.p
+  p = a.args.p
 
   abbrev z : ℕ
-  z = a.wide.result
+  z = a.wide-z.result
 
   abbrev q : ℕ
   q = c.half_root-q.result
@@ -64,7 +64,7 @@ module _ (c : goal.After-half_root-q) where
   half = subst (λ (x : ℕ). x ≤ 2 ^ 53) (halved c).half (half_le binary64 (d c) p z (w c) ((p + z) % 2) ((p + 1032 - y a) / 2) 1032 (leads a) (bit_le (p + z)) even refl (deep_64 (y a)) (halved c).least (halved c).most)
 
   small : (p + 1032 - y a) / 2 * 0x10_0000_0000_0000 + q < 2047 * 0x10_0000_0000_0000
-  small = small_64 p (y a) q a.before.pre.1.1 half
+  small = small_64 p (y a) q a.requires.p_bound half
 
   rooted : round_root binary64 (d c * 2 ^ p) (2 ^ 1074) ≡ of_bits binary64 ((p + 1032 - y a) / 2 * 0x10_0000_0000_0000 + q)
   rooted =

@@ -5,17 +5,7 @@ use Rattle.whole.specs.Whole.{downward}
 use Rattle.whole.specs.Fractions.{fraction_of}
 use Rattle.whole.specs.declared.Fraction.TheVariants.{Parts}
 use Rattle.whole.proofs.ToWhole.{down_is, down_le, made_nothing, made_parts, parts_bounded}
-use Rattle.whole.proofs.floor32.Lts as lts
-use Rattle.whole.proofs.floor32.Reads as reads
-use Rattle.whole.proofs.floor32.Tie as tie
 use Rattle.whole.proofs.floor32.Goals as goal
-
--- what is known where the code begins
-abbrev Start : Type 0
-Start = lts.Start tie.the-claims reads.Pre reads.Post tie.handed_clauses
-
-held : (c : Start) → T (fits binary32 c.args.x)
-held c = subst T (sym c.well_formed.0.1) tt
 
 -- what the match learns
 module _ (c : goal.In-Parts) where
@@ -23,22 +13,22 @@ module _ (c : goal.In-Parts) where
   x = c.args.x
 
   abbrev s : Bool
-  s = c.s-1.given.0.0
+  s = c.in-Parts.s
 
   abbrev d : ℕ
-  d = c.s-1.given.0.1.0
+  d = c.in-Parts.d
 
   abbrev shift : ℕ
-  shift = c.s-1.given.0.1.1.0
+  shift = c.in-Parts.shift
 
   learnt : fraction_of binary32 x ≡ Parts s d shift
-  learnt = sym c.split32.ensures ∙ c.s-1.given.1
+  learnt = sym c.split32.ensures ∙ c.in-Parts.is
 
   fit : (d < 2 ^ 24) × (0 < shift)
   fit = parts_bounded binary32 x s d shift learnt
 
 pub returns-in_default : goal.returns-in_default
-returns-in_default c = let a = c.before.before.before in made_nothing binary32 c.args.x downward down_is (held a) (sym c.split32.ensures ∙ c.enum_told-1.given.1)
+returns-in_default c = made_nothing binary32 c.args.x downward down_is (subst T (sym c.well_formed.0.1) tt) (sym c.split32.ensures ∙ c.in_default.is)
 
 pub shifted_down-requires : goal.shifted_down-requires
 shifted_down-requires c = omega (arith, (fit c).0)
@@ -49,5 +39,4 @@ signed32-requires c = subst (λ (n : ℕ). n ≤ 2 ^ 24) (sym c.shifted_down.ens
 pub returns : goal.returns
 returns c =
     let k = c.before.before in
-    let a = k.before.before.before.before in
-    c.signed32.ensures ∙ ap (λ (n : ℕ). round binary32 (s k) n 1) c.shifted_down.ensures ∙ made_parts binary32 c.args.x downward down_is (held a) (s k) (d k) (shift k) (learnt k)
+    c.signed32.ensures ∙ ap (λ (n : ℕ). round binary32 (s k) n 1) c.shifted_down.ensures ∙ made_parts binary32 c.args.x downward down_is (subst T (sym c.well_formed.0.1) tt) (s k) (d k) (shift k) (learnt k)

@@ -6,17 +6,7 @@ use Rattle.whole.specs.Whole.{away}
 use Rattle.whole.specs.Fractions.{fraction_of}
 use Rattle.whole.specs.declared.Fraction.TheVariants.{Parts}
 use Rattle.whole.proofs.ToWhole.{away_is, made_nothing, made_parts, parts_bounded}
-use Rattle.whole.proofs.round.Lts as lts
-use Rattle.whole.proofs.round.Reads as reads
-use Rattle.whole.proofs.round.Tie as tie
 use Rattle.whole.proofs.round.Goals as goal
-
--- what is known where the code begins
-abbrev Start : Type 0
-Start = lts.Start tie.the-claims reads.Pre reads.Post tie.handed_clauses
-
-held : (c : Start) → T (fits binary64 c.args.x)
-held c = subst T (sym c.well_formed.0.1) tt
 
 -- what the match learns
 module _ (c : goal.In-Parts) where
@@ -24,22 +14,22 @@ module _ (c : goal.In-Parts) where
   x = c.args.x
 
   abbrev s : Bool
-  s = c.s-1.given.0.0
+  s = c.in-Parts.s
 
   abbrev d : ℕ
-  d = c.s-1.given.0.1.0
+  d = c.in-Parts.d
 
   abbrev shift : ℕ
-  shift = c.s-1.given.0.1.1.0
+  shift = c.in-Parts.shift
 
   learnt : fraction_of binary64 x ≡ Parts s d shift
-  learnt = sym c.split.ensures ∙ c.s-1.given.1
+  learnt = sym c.split.ensures ∙ c.in-Parts.is
 
   fit : (d < 2 ^ 53) × (0 < shift)
   fit = parts_bounded binary64 x s d shift learnt
 
 pub returns-in_default : goal.returns-in_default
-returns-in_default c = let a = c.before.before.before in made_nothing binary64 c.args.x away away_is (held a) (sym c.split.ensures ∙ c.enum_told-1.given.1)
+returns-in_default c = made_nothing binary64 c.args.x away away_is (subst T (sym c.well_formed.0.1) tt) (sym c.split.ensures ∙ c.in_default.is)
 
 pub shifted_away-requires : goal.shifted_away-requires
 shifted_away-requires c = record { d_bound = (fit c).0; shift_nonzero = (fit c).1 }
@@ -50,5 +40,4 @@ signed-requires c = subst (λ (n : ℕ). n ≤ 2 ^ 53) (sym c.shifted_away.ensur
 pub returns : goal.returns
 returns c =
     let k = c.before.before in
-    let a = k.before.before.before.before in
-    c.signed.ensures ∙ ap (λ (n : ℕ). round binary64 (s k) n 1) c.shifted_away.ensures ∙ made_parts binary64 c.args.x away away_is (held a) (s k) (d k) (shift k) (learnt k)
+    c.signed.ensures ∙ ap (λ (n : ℕ). round binary64 (s k) n 1) c.shifted_away.ensures ∙ made_parts binary64 c.args.x away away_is (subst T (sym c.well_formed.0.1) tt) (s k) (d k) (shift k) (learnt k)

@@ -15,14 +15,14 @@ unfolding of_bits neg
 is_int c =
     let x = c.args.x in
     ap (λ (z : ℤ). to_z w64 (of_z w64 z)) c.truncating_f32_to_i64.ensures
-    ∙ to_z-of_z (record { sfits = to_signed_in 63 x })
+    ∙ to_z-of_z {w = w64} (record { sfits = to_signed_in 63 x })
     ∙ within 31 63 (lit≤ tt) x c.if-x.true c.if-x-2.true
 
 pub overflow_cast-result : goal.overflow_cast-result
 overflow_cast-result c = subst (SFits w32) (sym (is_int c)) (record { sfits = to_signed_in 31 c.args.x })
 
 pub returns-then-x-2 : goal.returns-then-x-2
-returns-then-x-2 c = ap (λ (z : ℤ). to_z w32 (of_z w32 z)) (is_int c) ∙ to_z-of_z (record { sfits = to_signed_in 31 c.args.x })
+returns-then-x-2 c = ap (λ (z : ℤ). to_z w32 (of_z w32 z)) (is_int c) ∙ to_z-of_z {w = w32} (record { sfits = to_signed_in 31 c.args.x })
 
 pub returns-else-x-2 : goal.returns-else-x-2
 unfolding of_bits neg
