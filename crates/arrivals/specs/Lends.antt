@@ -1,11 +1,11 @@
 -- What the functions are lent, by the names of their parameters: each is a type that computes to the clause written out. Definitions only.
 use Rattle.std.specs.Prelude.{◌≡◌, ℕ, Float}
-use Rattle.laws.specs.Lent.{Lends}
+use Rattle.laws.specs.Lent.{LendsMut}
 use Rattle.laws.specs.Places.{upto, laid}
 use Rattle.arrivals.specs.declared.choice.Branch.{Branch}
 
 -- ---- branches, a plane for each of their four parts
-module _ (cost : Lends Float) (prior : Lends ℕ) (real imaginary : Lends Float) where
+module _ (cost : LendsMut Float) (prior : LendsMut ℕ) (real imaginary : LendsMut Float) where
   -- the 16 branches f 0 to f 15 stand at `from` and after it, and no other place is moved
   abbrev pub Lays : ℕ → (ℕ → Branch) → Type 0
   Lays from f =

@@ -5,6 +5,8 @@
 // A state stands for the last three symbols: newest + 4 x next + 16 x oldest. Taps are lent as two
 // planes, tap after tap: tap t of the state s at s + 64 t.
 
+#![tactic(auto)]
+
 // The detector's states.
 pub const STATES: usize = 64;
 

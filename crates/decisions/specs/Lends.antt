@@ -1,13 +1,13 @@
 -- What the functions of the stage are lent, by the names of their parameters: each is a type that computes to the clause written out. Definitions only.
 use Rattle.std.specs.Prelude.{ℕ, Bool, Float}
-use Rattle.laws.specs.Lent.{Now, Lends}
+use Rattle.laws.specs.Lent.{NowMut, LendsMut}
 use Rattle.decisions.specs.declared.DecisionsPlace.{DecisionsPlace}
 use Rattle.decisions.specs.declared.Decided.{Decided}
 use Rattle.decisions.specs.Decisions.{DecisionsState, state_of}
 use Rattle.decisions.specs.Rows.{Lent}
 
 -- ---- a symbol: the stage as it is given, and as it is left
-module _ (p : DecisionsPlace) (channel_real channel_imaginary costs : Now Float) (parents : Now ℕ) (view_real view_imaginary : Now Float) where
+module _ (p : DecisionsPlace) (channel_real channel_imaginary costs : NowMut Float) (parents : NowMut ℕ) (view_real view_imaginary : NowMut Float) where
   abbrev pub Given : (DecisionsState → Type 0) → Type 0
   Given P =
       P
@@ -16,7 +16,7 @@ module _ (p : DecisionsPlace) (channel_real channel_imaginary costs : Now Float)
       costs.now parents.now
       view_real.now view_imaginary.now)
 
-module _ (p q : DecisionsPlace) (channel_real channel_imaginary costs : Lends Float) (parents : Lends ℕ) (view_real view_imaginary : Lends Float) where
+module _ (p q : DecisionsPlace) (channel_real channel_imaginary costs : LendsMut Float) (parents : LendsMut ℕ) (view_real view_imaginary : LendsMut Float) where
   abbrev pub Leaves : (DecisionsState → DecisionsState → Type 0) → Type 0
   Leaves Q =
       Q
@@ -30,7 +30,7 @@ module _ (p q : DecisionsPlace) (channel_real channel_imaginary costs : Lends Fl
       view_real.exit.now view_imaginary.exit.now)
 
 -- ---- the stage with its soft records and its row of answers
-module _ (t : Decided) (channel_real channel_imaginary costs : Now Float) (parents : Now ℕ) (view_real view_imaginary : Now Float) (flags : Now Bool) (bytes : Now ℕ) where
+module _ (t : Decided) (channel_real channel_imaginary costs : NowMut Float) (parents : NowMut ℕ) (view_real view_imaginary : NowMut Float) (flags : NowMut Bool) (bytes : NowMut ℕ) where
   abbrev pub GivenRow : (Lent → Type 0) → Type 0
   GivenRow P =
       P
@@ -44,7 +44,7 @@ module _ (t : Decided) (channel_real channel_imaginary costs : Now Float) (paren
         answers = record { flags = flags.now; bytes = bytes.now };
       })
 
-module _ (t r : Decided) (channel_real channel_imaginary costs : Lends Float) (parents : Lends ℕ) (view_real view_imaginary : Lends Float) (flags : Lends Bool) (bytes : Lends ℕ) where
+module _ (t r : Decided) (channel_real channel_imaginary costs : LendsMut Float) (parents : LendsMut ℕ) (view_real view_imaginary : LendsMut Float) (flags : LendsMut Bool) (bytes : LendsMut ℕ) where
   abbrev pub LeavesRow : (Lent → Lent → Type 0) → Type 0
   LeavesRow Q =
       Q

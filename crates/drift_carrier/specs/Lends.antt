@@ -1,12 +1,12 @@
 -- What a step is lent, by the names of its parameters: a type that computes to the clause written out. Definitions only.
 use Rattle.std.specs.Prelude.{ℕ, List, Float}
-use Rattle.laws.specs.Lent.{Lends}
+use Rattle.laws.specs.Lent.{Lends, LendsMut}
 use Rattle.drift_tracker.specs.Drift.{Memory}
 use Rattle.carrier.specs.declared.Carried.{Carried}
 use Rattle.drift_carrier.specs.Carrier.{CarrierStep}
 
 -- the memory, the costs and the parents as they are given, and all that the step leaves: the inverses in an array of their own
-module _ (r : Carried) (channel_real channel_imaginary drift inverse next costs : Lends Float) (parents : Lends ℕ) where
+module _ (r : Carried) (channel_real channel_imaginary drift : LendsMut Float) (inverse : Lends Float) (next costs : LendsMut Float) (parents : LendsMut ℕ) where
   abbrev pub Leaves : (Memory → List Float → List ℕ → CarrierStep → Type 0) → Type 0
   Leaves Q =
       Q

@@ -1,12 +1,12 @@
 -- What a step is lent, by the names of its parameters: a type that computes to the clause written out. Definitions only.
 use Rattle.std.specs.Prelude.{ℕ, List, Float}
-use Rattle.laws.specs.Lent.{Lends}
+use Rattle.laws.specs.Lent.{LendsMut}
 use Rattle.complex.specs.Planes.{Planes}
 use Rattle.sequence.specs.declared.step.Detected.{Detected}
 use Rattle.lms_detector.specs.Detector.{DetectorStep}
 
 -- the channels, the costs and the parents as they are given, and all that the step leaves
-module _ (r : Detected) (channel_real channel_imaginary costs : Lends Float) (parents : Lends ℕ) where
+module _ (r : Detected) (channel_real channel_imaginary costs : LendsMut Float) (parents : LendsMut ℕ) where
   abbrev pub Leaves : (Planes → List Float → List ℕ → DetectorStep → Type 0) → Type 0
   Leaves Q =
       Q

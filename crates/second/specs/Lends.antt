@@ -1,17 +1,17 @@
 -- What the functions of the stage are lent, by the names of their parameters: each is a type that computes to the clause written out. Definitions only.
 use Rattle.std.specs.Prelude.{ℕ, Bool, List, Float}
-use Rattle.laws.specs.Lent.{Now, Lends}
+use Rattle.laws.specs.Lent.{Now, NowMut, Lends, LendsMut}
 use Rattle.drift_tracker.specs.Drift.{Memory}
 use Rattle.second.specs.declared.Second.{Second}
 use Rattle.second.specs.Second.{second_of}
 use Rattle.second.specs.Rows.{Lent, lent_of, held_of}
 
 -- ---- a row: the one array of floats, the parents, and the row of answers
-module _ (t : Second) (memory : Now Float) (parents : Now ℕ) (flags : Now Bool) (bytes : Now ℕ) where
+module _ (t : Second) (memory : NowMut Float) (parents : NowMut ℕ) (flags : NowMut Bool) (bytes : NowMut ℕ) where
   abbrev pub Given : (Lent → Type 0) → Type 0
   Given P = P (record { state = second_of t memory.now parents.now; answers = record { flags = flags.now; bytes = bytes.now } })
 
-module _ (t r : Second) (memory : Lends Float) (parents : Lends ℕ) (flags : Lends Bool) (bytes : Lends ℕ) where
+module _ (t r : Second) (memory : LendsMut Float) (parents : LendsMut ℕ) (flags : LendsMut Bool) (bytes : LendsMut ℕ) where
   abbrev pub Leaves : (Lent → Lent → Type 0) → Type 0
   Leaves Q =
       Q
@@ -19,15 +19,21 @@ module _ (t r : Second) (memory : Lends Float) (parents : Lends ℕ) (flags : Le
       (record { state = second_of r memory.exit.now parents.exit.now; answers = record { flags = flags.exit.now; bytes = bytes.exit.now } })
 
 -- ---- the floats' parts in arrays of their own
-module _ (real imaginary drift inverse costs : Now Float) where
+module _ (real imaginary drift inverse costs : NowMut Float) where
   abbrev pub GivenParts : (Memory → List Float → Type 0) → Type 0
   GivenParts P = P (record { channels = record { real = real.now; imaginary = imaginary.now }; drift = drift.now; inverse = inverse.now }) costs.now
+
+-- the same parts, only read
+module _ (real imaginary drift inverse costs : Now Float) where
+  abbrev pub ShownParts : (Memory → List Float → Type 0) → Type 0
+  ShownParts P = P (record { channels = record { real = real.now; imaginary = imaginary.now }; drift = drift.now; inverse = inverse.now }) costs.now
 
 module _ (real imaginary drift inverse costs : Lends Float) where
   abbrev pub EntersParts : (Memory → List Float → Type 0) → Type 0
   EntersParts P =
       P (record { channels = record { real = real.entry.now; imaginary = imaginary.entry.now }; drift = drift.entry.now; inverse = inverse.entry.now }) costs.entry.now
 
+module _ (real imaginary drift inverse costs : LendsMut Float) where
   abbrev pub LeavesParts : (Memory → List Float → Type 0) → Type 0
   LeavesParts P =
       P (record { channels = record { real = real.exit.now; imaginary = imaginary.exit.now }; drift = drift.exit.now; inverse = inverse.exit.now }) costs.exit.now
@@ -41,7 +47,7 @@ module _ (n : ℕ) (real imaginary drift even odd costs : Lends Float) where
       costs.entry.now
 
 -- ---- with the parts so, the parents, and the row of answers
-module _ (t : Second) (real imaginary drift inverse costs : Now Float) (parents : Now ℕ) (flags : Now Bool) (bytes : Now ℕ) where
+module _ (t : Second) (real imaginary drift inverse costs : NowMut Float) (parents : NowMut ℕ) (flags : NowMut Bool) (bytes : NowMut ℕ) where
   abbrev pub GivenLink : (Lent → Type 0) → Type 0
   GivenLink P =
       P
@@ -52,7 +58,7 @@ module _ (t : Second) (real imaginary drift inverse costs : Now Float) (parents 
       flags.now bytes.now)
 
 -- the inverses are left in an array of their own
-module _ (t r : Second) (real imaginary drift inverse next costs : Lends Float) (parents : Lends ℕ) (flags : Lends Bool) (bytes : Lends ℕ) where
+module _ (t r : Second) (real imaginary drift : LendsMut Float) (inverse : Lends Float) (next costs : LendsMut Float) (parents : LendsMut ℕ) (flags : LendsMut Bool) (bytes : LendsMut ℕ) where
   abbrev pub LeavesLink : (Lent → Lent → Type 0) → Type 0
   LeavesLink Q =
       Q
@@ -68,7 +74,7 @@ module _ (t r : Second) (real imaginary drift inverse next costs : Lends Float) 
       flags.exit.now bytes.exit.now)
 
 -- they stand in one of two arrays, before the symbol k and before the symbol n
-module _ (t r : Second) (k n : ℕ) (real imaginary drift even odd costs : Lends Float) (parents : Lends ℕ) (flags : Lends Bool) (bytes : Lends ℕ) where
+module _ (t r : Second) (k n : ℕ) (real imaginary drift even odd costs : LendsMut Float) (parents : LendsMut ℕ) (flags : LendsMut Bool) (bytes : LendsMut ℕ) where
   abbrev pub LeavesTurns : (Lent → Lent → Type 0) → Type 0
   LeavesTurns Q =
       Q

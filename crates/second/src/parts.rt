@@ -2,7 +2,7 @@
 ghost use Rattle.std.specs.Prelude.{◌≡◌, ◌≤◌, ◌++◌, length, drop};
 ghost use Rattle.second.specs.Second.{memory_of, costs_of, joined_of};
 ghost use Rattle.second.specs.Ranges.{Parts};
-ghost use Rattle.second.specs.Lends.{GivenParts, LeavesParts, EntersParts, EntersHeld};
+ghost use Rattle.second.specs.Lends.{GivenParts, ShownParts, LeavesParts, EntersParts, EntersHeld};
 
 use channels::{CHANNELS, STATES};
 use drift_tracker::DRIFTS;
@@ -51,7 +51,7 @@ pub fn put_in(
     costs: &[f32; STATES],
 )
     requires in_bounds { 9280 ≤ length memory.old }
-    requires given_parts { GivenParts real imaginary drift inverse costs Parts }
+    requires given_parts { ShownParts real imaginary drift inverse costs Parts }
     ensures { EntersParts real imaginary drift inverse costs
         (λ m c. memory.new ≡ joined_of m c ++ drop 9280 memory.old) }
 {
@@ -74,7 +74,7 @@ pub fn put_back(
     costs: &[f32; STATES],
 )
     requires in_bounds { 9280 ≤ length memory.old }
-    requires given_parts { GivenParts real imaginary drift even costs Parts }
+    requires given_parts { ShownParts real imaginary drift even costs Parts }
     requires odd_len { length odd.now ≡ 8192 }
     ensures { EntersHeld count real imaginary drift even odd costs
         (λ m c. memory.new ≡ joined_of m c ++ drop 9280 memory.old) }

@@ -9,8 +9,8 @@ use Rattle.delivery.proofs.deliver.Given as goal
 abbrev pub invariant-loop-i : goal.invariant-loop-i
 invariant-loop-i l = (l.i ≤ l.count) × (length l.dibits ≡ length l.initial.dibits) × (length l.reliabilities ≡ length l.initial.reliabilities)
     × (◌≡◌ {A = Lent}
-    (record { place = l.t.place; room = record { l.dibits = l.dibits; l.reliabilities = l.reliabilities; written = l.t.written } })
-    (row_of (record { l.flags = l.flags; l.bytes = l.bytes }) l.others l.i (record { place = l.initial.t.place; room = record { l.dibits = l.initial.dibits; l.reliabilities = l.initial.reliabilities; written = l.initial.t.written } })))
+    (record { place = l.t.place; room = record { dibits = l.dibits; reliabilities = l.reliabilities; written = l.t.written } })
+    (row_of (record { flags = l.flags; bytes = l.bytes }) l.others l.i (record { place = l.initial.t.place; room = record { dibits = l.initial.dibits; reliabilities = l.initial.reliabilities; written = l.initial.t.written } })))
 
 abbrev pub decreases-loop-i : goal.decreases-loop-i
 decreases-loop-i l = l.count - l.i

@@ -8,8 +8,8 @@ use Rattle.lms_tracker.proofs.inherit.Given as goal
 
 abbrev pub invariant-loop-s : goal.invariant-loop-s
 invariant-loop-s l = (l.s ≤ 64)
-    × (l.real ≡ turns (put_turn (λ z. z.real) (inherited_at (record { l.real = l.old_real; l.imaginary = l.old_imaginary }) l.parents)) l.s l.initial.real)
-    × (l.imaginary ≡ turns (put_turn (λ z. z.imaginary) (inherited_at (record { l.real = l.old_real; l.imaginary = l.old_imaginary }) l.parents)) l.s l.initial.imaginary)
+    × (l.real ≡ turns (put_turn (λ z. z.real) (inherited_at (record { real = l.old_real; imaginary = l.old_imaginary }) l.parents)) l.s l.initial.real)
+    × (l.imaginary ≡ turns (put_turn (λ z. z.imaginary) (inherited_at (record { real = l.old_real; imaginary = l.old_imaginary }) l.parents)) l.s l.initial.imaginary)
 
 abbrev pub decreases-loop-s : goal.decreases-loop-s
 decreases-loop-s l = 64 - l.s

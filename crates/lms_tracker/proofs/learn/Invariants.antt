@@ -9,9 +9,9 @@ use Rattle.lms_tracker.proofs.learn.Given as goal
 
 abbrev pub invariant-loop-s : goal.invariant-loop-s
 invariant-loop-s l = (l.s ≤ 64)
-    × (l.real ≡ turns (put_turn (λ z. z.real) (learnt_at (record { l.real = l.old_real; l.imaginary = l.old_imaginary }) l.parents (record { l.real = l.prediction_real; l.imaginary = l.prediction_imaginary }) l.input)) l.s l.initial.real)
-    × (l.imaginary ≡ turns (put_turn (λ z. z.imaginary) (learnt_at (record { l.real = l.old_real; l.imaginary = l.old_imaginary }) l.parents (record { l.real = l.prediction_real; l.imaginary = l.prediction_imaginary }) l.input)) l.s l.initial.imaginary)
-    × (l.norms ≡ fill (λ k. norm_of (learnt_at (record { l.real = l.old_real; l.imaginary = l.old_imaginary }) l.parents (record { l.real = l.prediction_real; l.imaginary = l.prediction_imaginary }) l.input k)) l.s l.initial.norms)
+    × (l.real ≡ turns (put_turn (λ z. z.real) (learnt_at (record { real = l.old_real; imaginary = l.old_imaginary }) l.parents (record { real = l.prediction_real; imaginary = l.prediction_imaginary }) l.input)) l.s l.initial.real)
+    × (l.imaginary ≡ turns (put_turn (λ z. z.imaginary) (learnt_at (record { real = l.old_real; imaginary = l.old_imaginary }) l.parents (record { real = l.prediction_real; imaginary = l.prediction_imaginary }) l.input)) l.s l.initial.imaginary)
+    × (l.norms ≡ fill (λ k. norm_of (learnt_at (record { real = l.old_real; imaginary = l.old_imaginary }) l.parents (record { real = l.prediction_real; imaginary = l.prediction_imaginary }) l.input k)) l.s l.initial.norms)
 
 abbrev pub decreases-loop-s : goal.decreases-loop-s
 decreases-loop-s l = 64 - l.s

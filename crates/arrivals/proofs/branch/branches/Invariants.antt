@@ -7,9 +7,9 @@ use Rattle.arrivals.proofs.branch.branches.Given as goal
 
 abbrev pub invariant-loop-p : goal.invariant-loop-p
 invariant-loop-p l = (l.p ≤ 64)
-    × (l.sums ≡ fill (sum_with (record { l.real = l.real; l.imaginary = l.imaginary }) (record { l.real = l.past_real; l.imaginary = l.past_imaginary }) l.costs l.s l.input l.reliable) l.p l.initial.sums)
-    × (l.prediction_real ≡ fill (real_with (record { l.real = l.real; l.imaginary = l.imaginary }) (record { l.real = l.past_real; l.imaginary = l.past_imaginary }) l.s) l.p l.initial.prediction_real)
-    × (l.prediction_imaginary ≡ fill (imaginary_with (record { l.real = l.real; l.imaginary = l.imaginary }) (record { l.real = l.past_real; l.imaginary = l.past_imaginary }) l.s) l.p l.initial.prediction_imaginary)
+    × (l.sums ≡ fill (sum_with (record { real = l.real; imaginary = l.imaginary }) (record { real = l.past_real; imaginary = l.past_imaginary }) l.costs l.s l.input l.reliable) l.p l.initial.sums)
+    × (l.prediction_real ≡ fill (real_with (record { real = l.real; imaginary = l.imaginary }) (record { real = l.past_real; imaginary = l.past_imaginary }) l.s) l.p l.initial.prediction_real)
+    × (l.prediction_imaginary ≡ fill (imaginary_with (record { real = l.real; imaginary = l.imaginary }) (record { real = l.past_real; imaginary = l.past_imaginary }) l.s) l.p l.initial.prediction_imaginary)
 
 abbrev pub decreases-loop-p : goal.decreases-loop-p
 decreases-loop-p l = 64 - l.p

@@ -7,8 +7,8 @@ use Rattle.channels.proofs.predict.past_terms.Given as goal
 
 abbrev pub invariant-loop-p : goal.invariant-loop-p
 invariant-loop-p l = (l.p ≤ 64)
-    × (l.past_real ≡ turns (past_turn (λ z. z.real) (record { l.real = l.real; l.imaginary = l.imaginary })) l.p l.initial.past_real)
-    × (l.past_imaginary ≡ turns (past_turn (λ z. z.imaginary) (record { l.real = l.real; l.imaginary = l.imaginary })) l.p l.initial.past_imaginary)
+    × (l.past_real ≡ turns (past_turn (λ z. z.real) (record { real = l.real; imaginary = l.imaginary })) l.p l.initial.past_real)
+    × (l.past_imaginary ≡ turns (past_turn (λ z. z.imaginary) (record { real = l.real; imaginary = l.imaginary })) l.p l.initial.past_imaginary)
 
 abbrev pub decreases-loop-p : goal.decreases-loop-p
 decreases-loop-p l = 64 - l.p

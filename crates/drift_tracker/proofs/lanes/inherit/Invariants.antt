@@ -7,7 +7,7 @@ use Rattle.drift_tracker.specs.Drift.{drift_at, parent_of}
 use Rattle.drift_tracker.proofs.lanes.inherit.Given as goal
 
 abbrev pub invariant-loop-k : goal.invariant-loop-k
-invariant-loop-k l = (l.k ≤ 256) × (l.new ≡ pairs_to 256 (λ l.k. number_of (drift_at l.all (parent_of l.parents (l.k % 64))) (l.k / 64)) l.k l.initial.new)
+invariant-loop-k l = (l.k ≤ 256) × (l.new ≡ pairs_to 256 (λ n. number_of (drift_at l.all (parent_of l.parents (n % 64))) (n / 64)) l.k l.initial.new)
 
 abbrev pub decreases-loop-k : goal.decreases-loop-k
 decreases-loop-k l = 256 - l.k

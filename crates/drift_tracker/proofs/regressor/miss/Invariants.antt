@@ -7,7 +7,7 @@ use Rattle.lane_sums.specs.LaneLaws.{pairs_to}
 use Rattle.drift_tracker.proofs.regressor.miss.Given as goal
 
 abbrev pub invariant-loop-l : goal.invariant-loop-l
-invariant-loop-l l = (l.l ≤ 16) × (l.error ≡ pairs_to 16 (λ l.l. difference_of l.input (point_at (record { real = l.prediction_real; imaginary = l.prediction_imaginary }) (16 * l.g + l.l))) l.l l.initial.error)
+invariant-loop-l l = (l.l ≤ 16) × (l.error ≡ pairs_to 16 (λ n. difference_of l.input (point_at (record { real = l.prediction_real; imaginary = l.prediction_imaginary }) (16 * l.g + n))) l.l l.initial.error)
 
 abbrev pub decreases-loop-l : goal.decreases-loop-l
 decreases-loop-l l = 16 - l.l

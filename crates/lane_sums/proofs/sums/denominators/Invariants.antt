@@ -7,7 +7,7 @@ use Rattle.least_squares.specs.LeastSquares.{denominator_of}
 use Rattle.lane_sums.proofs.sums.denominators.Given as goal
 
 abbrev pub invariant-loop-l : goal.invariant-loop-l
-invariant-loop-l l = (l.l ≤ 16) × (l.d ≡ fill (λ l.l. denominator_of (four_in l.u l.l) (row_in l.v l.l)) l.l l.initial.d)
+invariant-loop-l l = (l.l ≤ 16) × (l.d ≡ fill (λ n. denominator_of (four_in l.u n) (row_in l.v n)) l.l l.initial.d)
 
 abbrev pub decreases-loop-l : goal.decreases-loop-l
 decreases-loop-l l = 16 - l.l

@@ -7,13 +7,13 @@ use Rattle.lane_sums.specs.LaneLaws.{pairs_to, pairs_from}
 use Rattle.lane_sums.proofs.sums.divide.Given as goal
 
 abbrev pub invariant-loop-l : goal.invariant-loop-l
-invariant-loop-l l = (l.l ≤ 16) × (l.gain ≡ pairs_from 128 (in_lanes (λ l.l. gain_of (row_in l.v l.l) (real_in l.d l.l))) (16 * l.i) l.l l.initial.gain)
+invariant-loop-l l = (l.l ≤ 16) × (l.gain ≡ pairs_from 128 (in_lanes (λ n. gain_of (row_in l.v n) (real_in l.d n))) (16 * l.i) l.l l.initial.gain)
 
 abbrev pub decreases-loop-l : goal.decreases-loop-l
 decreases-loop-l l = 16 - l.l
 
 abbrev pub invariant-loop-i : goal.invariant-loop-i
-invariant-loop-i l = (l.i ≤ 8) × (l.gain ≡ pairs_to 128 (in_lanes (λ l. gain_of (row_in l.v l) (real_in l.d l))) (16 * l.i) l.initial.gain)
+invariant-loop-i l = (l.i ≤ 8) × (l.gain ≡ pairs_to 128 (in_lanes (λ n. gain_of (row_in l.v n) (real_in l.d n))) (16 * l.i) l.initial.gain)
 
 abbrev pub decreases-loop-i : goal.decreases-loop-i
 decreases-loop-i l = 8 - l.i

@@ -7,13 +7,13 @@ use Rattle.lane_sums.specs.LaneLaws.{pairs_to, pairs_from}
 use Rattle.lane_sums.proofs.sums.project.Given as goal
 
 abbrev pub invariant-loop-l : goal.invariant-loop-l
-invariant-loop-l l = (l.l ≤ 16) × (l.v ≡ pairs_from 128 (in_lanes (λ l.l. projected_of (inverse_in l.w l.l) (four_in l.u l.l))) (16 * l.i) l.l l.initial.v)
+invariant-loop-l l = (l.l ≤ 16) × (l.v ≡ pairs_from 128 (in_lanes (λ n. projected_of (inverse_in l.w n) (four_in l.u n))) (16 * l.i) l.l l.initial.v)
 
 abbrev pub decreases-loop-l : goal.decreases-loop-l
 decreases-loop-l l = 16 - l.l
 
 abbrev pub invariant-loop-i : goal.invariant-loop-i
-invariant-loop-i l = (l.i ≤ 8) × (l.v ≡ pairs_to 128 (in_lanes (λ l. projected_of (inverse_in l.w l) (four_in l.u l))) (16 * l.i) l.initial.v)
+invariant-loop-i l = (l.i ≤ 8) × (l.v ≡ pairs_to 128 (in_lanes (λ n. projected_of (inverse_in l.w n) (four_in l.u n))) (16 * l.i) l.initial.v)
 
 abbrev pub decreases-loop-i : goal.decreases-loop-i
 decreases-loop-i l = 8 - l.i

@@ -9,7 +9,7 @@ use Rattle.settling.proofs.quad.settle_quad.Given as goal
 
 abbrev pub invariant-loop-j : goal.invariant-loop-j
 invariant-loop-j l = (l.i < l.j) × (l.j ≤ 8) × (length l.next ≡ 8192)
-    × ((l : List Float) → l.initial.next ≡ swept (pair_turn (l.base / 256)) (8 * l.i + l.initial.j) (settled_number l.w l.gain l.row) l → l.next ≡ swept (pair_turn (l.base / 256)) (8 * l.i + l.j) (settled_number l.w l.gain l.row) l)
+    × ((list : List Float) → l.initial.next ≡ swept (pair_turn (l.base / 256)) (8 * l.i + l.initial.j) (settled_number l.w l.gain l.row) list → l.next ≡ swept (pair_turn (l.base / 256)) (8 * l.i + l.j) (settled_number l.w l.gain l.row) list)
 
 abbrev pub decreases-loop-j : goal.decreases-loop-j
 decreases-loop-j l = 8 - l.j

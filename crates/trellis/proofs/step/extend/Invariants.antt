@@ -11,10 +11,10 @@ invariant-loop-k l = (l.k ≤ 4)
     × (length l.sums ≡ 64)
     × (length l.branch_real ≡ 64)
     × (length l.branch_imaginary ≡ 64)
-    × (l.cost ≡ tiers (λ i q. (swept_of (record { l.real = l.real; l.imaginary = l.imaginary }) (record { l.real = l.past_real; l.imaginary = l.past_imaginary }) l.costs l.input l.reliable i q).cost) l.k l.initial.cost)
-    × (l.prior ≡ tiers (λ i q. (swept_of (record { l.real = l.real; l.imaginary = l.imaginary }) (record { l.real = l.past_real; l.imaginary = l.past_imaginary }) l.costs l.input l.reliable i q).prior) l.k l.initial.prior)
-    × (l.chosen_real ≡ tiers (λ i q. (swept_of (record { l.real = l.real; l.imaginary = l.imaginary }) (record { l.real = l.past_real; l.imaginary = l.past_imaginary }) l.costs l.input l.reliable i q).real) l.k l.initial.chosen_real)
-    × (l.chosen_imaginary ≡ tiers (λ i q. (swept_of (record { l.real = l.real; l.imaginary = l.imaginary }) (record { l.real = l.past_real; l.imaginary = l.past_imaginary }) l.costs l.input l.reliable i q).imaginary) l.k l.initial.chosen_imaginary)
+    × (l.cost ≡ tiers (λ i q. (swept_of (record { real = l.real; imaginary = l.imaginary }) (record { real = l.past_real; imaginary = l.past_imaginary }) l.costs l.input l.reliable i q).cost) l.k l.initial.cost)
+    × (l.prior ≡ tiers (λ i q. (swept_of (record { real = l.real; imaginary = l.imaginary }) (record { real = l.past_real; imaginary = l.past_imaginary }) l.costs l.input l.reliable i q).prior) l.k l.initial.prior)
+    × (l.chosen_real ≡ tiers (λ i q. (swept_of (record { real = l.real; imaginary = l.imaginary }) (record { real = l.past_real; imaginary = l.past_imaginary }) l.costs l.input l.reliable i q).real) l.k l.initial.chosen_real)
+    × (l.chosen_imaginary ≡ tiers (λ i q. (swept_of (record { real = l.real; imaginary = l.imaginary }) (record { real = l.past_real; imaginary = l.past_imaginary }) l.costs l.input l.reliable i q).imaginary) l.k l.initial.chosen_imaginary)
 
 abbrev pub decreases-loop-k : goal.decreases-loop-k
 decreases-loop-k l = 4 - l.k
