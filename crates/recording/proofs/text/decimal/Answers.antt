@@ -7,7 +7,7 @@ pub copied-requires : goal.copied-requires
 copied-requires c =
     let n = c.args.n in
     let asked = c.requires in
-    same_fits _ _ _ _ (spelled n c.decimal-k.result c.decimal-k.new.1.0 c.decimal-k.ensures.len c.decimal-k.ensures.1.1) asked
+    same_fits _ _ _ _ (spelled n c.decimal-k.result c.decimal-k.new.out c.decimal-k.ensures.len c.decimal-k.ensures.digits) asked
 
 pub returns : goal.returns
 returns c =
@@ -15,4 +15,4 @@ returns c =
     let decimal_gives = c.decimal-k.result in
     let decimal_left = c.decimal-k.new in
     let decimal_says = c.decimal-k.ensures in
-    c.copied.ensures ∙ put_same _ _ _ (spelled n decimal_gives decimal_left.1.0 decimal_says.len decimal_says.)
+    c.copied.ensures ∙ put_same _ _ _ (spelled n decimal_gives decimal_left.out decimal_says.len decimal_says.digits)
