@@ -5,7 +5,7 @@ use Rattle.answers.specs.Walk.{with_record_of}
 use Rattle.answers.proofs.walk.with_record.Goals as goal
 
 pub returns-in_default : goal.returns-in_default
-returns-in_default c = sym (ap (with_record_of _) c.enum_told-1.given.1)
+returns-in_default c = sym (ap (with_record_of _) c.in_default.is)
 
 pub returns : goal.returns
-returns c = answer_is _ _ _ _ _ _ _ _ c.soft-1.given.1 c.agreed.ensures c.agreed-2.ensures
+returns c = answer_is _ _ _ _ _ _ _ _ c.in-Recorded.is c.agreed.ensures c.agreed-2.ensures

@@ -1,5 +1,4 @@
 -- `branch::branches` meets its contract: each turn of the loop writes one prior's sum and the two parts of its prediction.
-use Prim.Native.Nat.{◌-◌}
 use lib.Ieee.{nan}
 use Rattle.laws.specs.Places.{fill_start, fill_end}
 use Rattle.arrivals.specs.Laws.{sum_step, real_step, imaginary_step}

@@ -1,6 +1,5 @@
 -- `choice::choose` meets its contract: each turn of the loop lays the choice for one q at its place of the four planes.
 use mathlib.Core.Path.{ap}
-use Prim.Native.Nat.{◌-◌}
 use Rattle.laws.specs.Places.{laid_start, laid_step, laid_end}
 use borrow.Author.Rules.{rules}
 use Rattle.arrivals.proofs.choice.choose.Goals as goal

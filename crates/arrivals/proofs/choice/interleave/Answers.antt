@@ -1,5 +1,4 @@
 -- `choice::interleave` meets its contract: each turn of the loop writes the four states that share a q, one for each symbol.
-use Prim.Native.Nat.{◌-◌}
 use native.Mathlib.Omega.{arith}
 use lib.ListN.{length-set}
 use lib.Ieee.{nan}

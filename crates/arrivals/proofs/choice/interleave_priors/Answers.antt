@@ -1,5 +1,5 @@
 -- `choice::interleave_priors` meets its contract: each turn of the loop writes the four states that share a q, and each prior fits a byte.
-use Prim.Native.Nat.{◌+◌, ◌-◌}
+use Prim.Native.Nat.{◌+◌}
 use native.Mathlib.Omega.{arith}
 use Rattle.laws.specs.Turns.{turns_start, turns_step}
 use Rattle.arrivals.specs.Runs.{fours_turn, fours_end}

@@ -1,5 +1,4 @@
 -- `best::cheapest` meets its contract: the first cheapest of each quarter of the states, and of these four the first cheapest, is the first cheapest of all.
-use Prim.Native.Nat.{◌-◌}
 use native.Mathlib.Omega.{arith}
 use Rattle.trellis.specs.Best.{scan_start, scan_step, quarters}
 use borrow.Author.Rules.{rules}

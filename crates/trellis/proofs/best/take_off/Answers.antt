@@ -1,5 +1,4 @@
 -- `best::take_off` meets its contract: each turn of the loop takes the cost off one state.
-use Prim.Native.Nat.{◌-◌}
 use Rattle.laws.specs.Turns.{turns_start, turns_step}
 use Rattle.trellis.specs.Laws.{off_turn, off_end}
 use borrow.Author.Rules.{rules}

@@ -1,6 +1,5 @@
 -- `step::extend` meets its contract: four sweeps, one for each symbol, give each state's first cheapest branch, and these are brought into the order of the states.
 use mathlib.Core.Path.{refl}
-use Prim.Native.Nat.{◌-◌}
 use lib.Ieee.{nan}
 use Rattle.arrivals.specs.Laws.{extend_is, priors_small}
 use Rattle.arrivals.specs.Runs.{tiers_start, tiers_step}
@@ -35,9 +34,12 @@ returns c =
     let laid = c.loop-k.invariant in
     let costs = c.interleave.ensures in
     let priors = c.interleave_priors.ensures in
-    let values = c.slice_known-1.given in record { reads = (
+    let values = c.slice_known-1.given in record {
+      reads = (
         extend_is (λ b. b.cost) nan _ _ _ _ _ _ _ _ _ past.0 past.1 laid.4 (search rules) (search rules) refl costs,
         extend_is (λ b. b.prior) 0 _ _ _ _ _ _ _ _ _ past.0 past.1 laid.5 (search rules) (search rules) refl priors,
         extend_is (λ b. b.real) nan _ _ _ _ _ _ _ _ _ past.0 past.1 laid.6 (search rules) (search rules) refl c.interleave-2.ensures,
         extend_is (λ b. b.imaginary) nan _ _ _ _ _ _ _ _ _ past.0 past.1 laid.7 (search rules) (search rules) refl c.interleave-3.ensures,
-      ); values = record { value = values } }
+      );
+      values = record { value = values };
+    }

@@ -8,9 +8,12 @@ use Rattle.trellis.proofs.step.sweep.Goals as goal
 pub returns : goal.returns
 returns c =
     let s = c.symbol.ensures in
-    let written = c.branches.ensures in record { reads = (
+    let written = c.branches.ensures in record {
+      reads = (
         sweep_is (λ b. b.cost) _ _ _ _ _ _ _ _ _ _ _ _ _ s written.0 written.1 written.2 c.choose.ensures.0,
         sweep_is (λ b. b.prior) _ _ _ _ _ _ _ _ _ _ _ _ _ s written.0 written.1 written.2 c.choose.ensures.1,
         sweep_is (λ b. b.real) _ _ _ _ _ _ _ _ _ _ _ _ _ s written.0 written.1 written.2 c.choose.ensures.2,
         sweep_is (λ b. b.imaginary) _ _ _ _ _ _ _ _ _ _ _ _ _ s written.0 written.1 written.2 c.choose.ensures.3,
-      ); sums_len = (ap length written.0 ∙ length_upto _ 64, ap length written.1 ∙ length_upto _ 64, ap length written.2 ∙ length_upto _ 64) }
+      );
+      sums_len = (ap length written.0 ∙ length_upto _ 64, ap length written.1 ∙ length_upto _ 64, ap length written.2 ∙ length_upto _ 64);
+    }
