@@ -1,6 +1,8 @@
 // The detector with the second tracker: where the input is reliable the taps go on by their drift, then
 // the skeleton takes its step with the channels as they stand, and then taps, drifts and inverses follow
 // by least squares what was received.
+#![tactic(auto)]
+
 ghost use Rattle.std.specs.Prelude.{◌≡◌, length};
 ghost use Rattle.complex.specs.Lends as Planes;
 ghost use Rattle.drift_detector.specs.Detector.{channels_for, detected_of};
