@@ -1,6 +1,5 @@
 -- `deliver` meets its contract: after i turns the first i answers of the row are delivered.
 use mathlib.Core.Path.{refl}
-use Prim.Native.Nat.{◌-◌}
 use native.Mathlib.Omega.{arith}
 use Rattle.delivery.specs.Laws.{row_start, row_step, row_asks, row_end}
 use Rattle.delivery.proofs.deliver.Goals as goal
