@@ -1,6 +1,8 @@
 // Clock recovery: a ring of 256 samples at four to a symbol, the matched filter's arm and windows
 // for each symbol, and a loop that turns the arms by a timing error. Ring and windows are planes of
 // real and imaginary parts that the caller lends.
+#![tactic(auto)]
+
 ghost use Rattle.std.specs.Prelude.{◌≡◌};
 ghost use Rattle.filter.specs.Lends.{Windowed, Given};
 ghost use Rattle.clock.specs.Clock.{fresh_place, counts_fit, admitted_of, stepped_of, updated_of};

@@ -1,7 +1,7 @@
 -- The quantiser without a branch. A part below 512 in size times 32768 + 2 ^ -11 is exact, lies on its side of every half, and is brought to the nearest whole number
 -- by adding 3 * 2 ^ 51 and taking it off again: the factor is larger than 32768 by so little that it moves a tie, and nothing else, to the other side of its half.
 -- From 512 on a part times 32768 is whole. Assumes nothing.
-use Rattle.std.specs.Prelude.{◌≡◌, ℕ, zero, suc, ◌+◌, ◌-◌, ◌*◌, ◌/◌, ◌%◌, ◌^◌, ◌<◌, ◌≤◌, Bool, true, false, cond, not, ◌&&◌, T, ltb, ℤ, pos, negsuc, neg_ℤ, is_nan, nat_eq, nat_le, nat_lt, Float}
+use Rattle.std.specs.Prelude.{◌≡◌, ℕ, zero, suc, ◌+◌, ◌-◌, ◌*◌, ◌/◌, ◌%◌, ◌^◌, ◌<◌, ◌≤◌, Bool, true, false, cond, not, ◌&&◌, T, ltb, ℤ, pos, negsuc, neg_ℤ, nat_eq, nat_le, nat_lt, Float}
 use Rattle.std.proofs.Math.Path.{refl, sym, ap, subst}
 use Rattle.std.proofs.Common.{◌∙◌, mul_assoc, mul_right_comm, mul-pos, mul-one, zero-mul, add-mul, le_of_mul-le-mul_right, mul-lt-mul_of_pos_right, eq-zero-or-pos, lt_of_lt_of_le, le_trans, le_of_eq, lt_of_le_of_lt, add-le-add, le_refl, lt_irrefl, add_comm, ltb→lt, leb→le, eqb→eq, lt→ltb, le→leb, lit<, lit≤, pow_mono, lt-ltb, le-ltb, ltb-true, ltb-false}
 use Rattle.std.proofs.Math.Logic.{⊎_elim}
@@ -11,7 +11,7 @@ use Rattle.std.specs.Bool.{beq}
 use Rattle.std.proofs.Math.Bool.{false≢true}
 use Rattle.std.proofs.Math.Pow.{pow-add, pow_pos, pow-lt}
 use Rattle.std.specs.Float.{nan, inf, fin, Format, binary32}
-use Rattle.std.specs.Float.Ieee.{binary64, prec, emax, low, up, down, units, round, sum, add, sub, mul, neg, lt, of_int, to_signed, in_float, in_signed, of_bits, fits}
+use Rattle.std.specs.Float.Ieee.{binary64, prec, emax, low, up, down, units, round, sum, add, sub, mul, neg, lt, of_int, to_signed, in_float, in_signed, of_bits, fits, is_nan}
 use Rattle.std.specs.Float.Ieee.Fits.{up_pos, down_pos, reach, and_i, and_l, and_r, fits_widens, mul-fits}
 use Rattle.std.specs.Float.Ieee.Exact.{HasValue, units_val, round_exact}
 use Rattle.std.specs.Float.Ieee.Back.{positive_back, negative_back}
@@ -57,6 +57,10 @@ sum_same f s t c W C W₀ U R a b p q = λ i.
 
 add_at : (f : Format) (x y : Float) (s t : Bool) (a b c : ℕ) → 0 < c → HasValue x s a c → HasValue y t b c → add f x y ≡ sum f s a t b c
 unfolding add
+add_at f nan y s t a b c C v w = elim v [ ]
+add_at f (inf _) y s t a b c C v w = elim v [ ]
+add_at f (fin s' m e) nan s t a b c C v w = elim w [ ]
+add_at f (fin s' m e) (inf _) s t a b c C v w = elim w [ ]
 add_at f (fin s' m e) (fin t' n d) s t a b c C v w =
     let U = m * up e * down d in
     let R = n * up d * down e in
@@ -429,6 +433,8 @@ quantises_within (fin s m e) F h =
 
 -- ---- from 512 on the part times 32768 is whole
 whole_already : (x : Float) (s : Bool) (n : ℕ) → T (fits binary64 x) → HasValue x s n 1 → whole_of away binary64 x ≡ x
+whole_already nan s n F v = elim v [ ]
+whole_already (inf _) s n F v = elim v [ ]
 whole_already (fin t m e) s n F v =
     whole_value away away_is binary64 (fin t m e) s n 1 (lit< tt) v
     ∙ ap (λ (k : ℕ). round binary64 s k 1) (away_is.still s n)

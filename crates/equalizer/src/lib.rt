@@ -1,6 +1,8 @@
 // The equalizer: 21 taps half a symbol apart, centre 1, adaptation zero. Every row of 21 is lent as
 // two planes: wr and wi are the real and imaginary parts of the weights, xr and xi those of the
 // window, dr and di those of its derivatives.
+#![tactic(auto)]
+
 ghost use Rattle.std.specs.Prelude.{◌≡◌};
 ghost use Rattle.equalizer.specs.Lends.{Reads, Leaves};
 ghost use Rattle.equalizer.specs.Equalizer.{Step, fresh_real, fresh_imaginary, tapped_of, tap_sums_of};

@@ -1,6 +1,8 @@
 // The matched filter and its derivative: 21 windows, two samples apart, of 33 taps each. Every sum
 // runs over its taps in order from 0; four windows go side by side, on the samples at even and at
 // odd places laid out apart, so that their sums stay in registers.
+#![tactic(auto)]
+
 ghost use Rattle.std.specs.Prelude.{◌≡◌, ◌<◌, ◌≤◌};
 ghost use Rattle.filter.specs.Filter.{windows_with, matched_of};
 ghost use Rattle.filter.specs.Lends.{Windowed, Given, Leaves};

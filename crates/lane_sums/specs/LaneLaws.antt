@@ -1,5 +1,5 @@
 -- Loops that lay complex numbers into a room, one after the other, and what stands in a lane of it. Assumes nothing.
-use Rattle.std.specs.Prelude.{◌≡◌, refl, Bool, true, false, ltb, set, Float}
+use Rattle.std.specs.Prelude.{◌≡◌, ltb, set, Float}
 use Rattle.std.proofs.Math.Path.{ap}
 use Rattle.std.proofs.Common.{sym, ◌∙◌, length-set, lt-ltb, le-ltb}
 use Rattle.std.proofs.Math.Logic.{⊎_elim}

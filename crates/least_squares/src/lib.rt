@@ -1,6 +1,8 @@
 // The arithmetic of the second tracker's least-squares step, number by number, and the rooms in which
 // sixteen states take it side by side: the number k of the lane l stands at 16 k + l, and its imaginary
 // part half a room further.
+#![tactic(auto)]
+
 pub mod entry;
 pub mod limits;
 pub mod step;

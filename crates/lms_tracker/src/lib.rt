@@ -1,5 +1,7 @@
 // How the states' taps follow what was received: each state goes on from its parent's taps, moved by
 // LMS steps, so that its prediction comes nearer to the input.
+#![tactic(auto)]
+
 ghost use Rattle.std.specs.Prelude.{◌≡◌, ◌+◌, ◌*◌, ◌/◌, ◌%◌, ◌<◌, length};
 ghost use Rattle.laws.specs.Places.{upto};
 ghost use Rattle.lms_tracker.specs.Layout.{scaled_column, limit_column, limited_at};

@@ -1,2 +1,4 @@
 pub mod Narrowing
 pub mod Minus
+pub mod Faithful
+pub mod NearestLaws

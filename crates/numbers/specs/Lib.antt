@@ -8,7 +8,5 @@ pub mod Laws
 pub mod Clamped
 pub mod Roots
 pub mod RootOrder
-pub mod Faithful
 pub mod Nearest
 pub mod Halves
-pub mod NearestLaws

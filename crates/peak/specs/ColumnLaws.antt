@@ -7,7 +7,7 @@ use Rattle.std.specs.Float.Ieee.{nan, binary32, of_bits}
 use Rattle.laws.specs.Places.{upto_at}
 use Rattle.laws.specs.Ring.{lt_or_ge}
 use Rattle.numbers.specs.Nearest.{Value}
-use Rattle.numbers.specs.NearestLaws.{same_place}
+use Rattle.numbers.proofs.NearestLaws.{same_place}
 use Rattle.peak.specs.Peak.{top_of, peak_of}
 use Rattle.peak.specs.Columns.{four_of, column_of, columns_of, quarter_of, highest_of}
 use Rattle.peak.specs.Sizes.{Unsigned, some, place, top_unsigned, top_place, Largest, largest_one, nought, in_order}

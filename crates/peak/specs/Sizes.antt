@@ -12,7 +12,7 @@ use Rattle.laws.specs.Turns.{turns}
 use Rattle.laws.specs.FloatOrder.{lt_nan}
 use Rattle.numbers.specs.Numbers.{max_of, sign_of}
 use Rattle.numbers.specs.Nearest.{Value, units_of}
-use Rattle.numbers.specs.NearestLaws.{place_order}
+use Rattle.numbers.proofs.NearestLaws.{place_order}
 use Rattle.peak.specs.Peak.{top_of, peak_turn}
 
 -- a NaN, or an f32 with no sign

@@ -1,6 +1,8 @@
 // The peak keeper: the last 64 values, their peak and a slowly decaying reference, which together
 // say how much to amplify the oldest value and whether it can be relied on. The ring stands in lent
 // planes, with the values' envelopes in a third, so that only the newest is worked out anew.
+#![tactic(auto)]
+
 ghost use Rattle.std.specs.Prelude.{◌≡◌, ◌<◌, length};
 ghost use Rattle.peak.specs.Lends.{Leaves};
 ghost use Rattle.peak.specs.Peak.{KeeperStep, fresh_place, admitted_of, envelope_of, envelopes_of, top_of, followed_of, floor_of, gain_of, reliable_of, levelled_of, kept_of};

@@ -1,13 +1,13 @@
 -- What the functions of the stage are lent, by the names of their parameters: each is a type that computes to the clause written out. Definitions only.
 use Rattle.std.specs.Prelude.{ℕ, Bool, Float}
-use Rattle.laws.specs.Lent.{Now, Lends}
+use Rattle.laws.specs.Lent.{NowMut, LendsMut}
 use Rattle.recovery.specs.declared.RecoveryPlace.{RecoveryPlace}
 use Rattle.recovery.specs.declared.Recovered.{Recovered}
 use Rattle.recovery.specs.Recovery.{RecoveryState, state_of}
 use Rattle.recovery.specs.Rows.{Symbols, Lent}
 
 -- ---- a value: the stage as it is given, and as it is left
-module _ (p : RecoveryPlace) (keeper_real keeper_imaginary clock_real clock_imaginary weight_real weight_imaginary : Now Float) where
+module _ (p : RecoveryPlace) (keeper_real keeper_imaginary clock_real clock_imaginary weight_real weight_imaginary : NowMut Float) where
   abbrev pub Given : (RecoveryState → Type 0) → Type 0
   Given P =
       P
@@ -16,7 +16,7 @@ module _ (p : RecoveryPlace) (keeper_real keeper_imaginary clock_real clock_imag
       clock_real.now clock_imaginary.now
       weight_real.now weight_imaginary.now)
 
-module _ (p q : RecoveryPlace) (keeper_real keeper_imaginary clock_real clock_imaginary weight_real weight_imaginary : Lends Float) where
+module _ (p q : RecoveryPlace) (keeper_real keeper_imaginary clock_real clock_imaginary weight_real weight_imaginary : LendsMut Float) where
   abbrev pub Leaves : (RecoveryState → RecoveryState → Type 0) → Type 0
   Leaves Q =
       Q
@@ -30,11 +30,11 @@ module _ (p q : RecoveryPlace) (keeper_real keeper_imaginary clock_real clock_im
       weight_real.exit.now weight_imaginary.exit.now)
 
 -- ---- a row of symbols
-module _ (n : ℕ) (symbol_real symbol_imaginary : Now Float) (reliable : Now Bool) where
+module _ (n : ℕ) (symbol_real symbol_imaginary : NowMut Float) (reliable : NowMut Bool) where
   abbrev pub GivenSymbols : (Symbols → Type 0) → Type 0
   GivenSymbols P = P (record { real = symbol_real.now; imaginary = symbol_imaginary.now; reliable = reliable.now; count = n })
 
-module _ (n m : ℕ) (symbol_real symbol_imaginary : Lends Float) (reliable : Lends Bool) where
+module _ (n m : ℕ) (symbol_real symbol_imaginary : LendsMut Float) (reliable : LendsMut Bool) where
   abbrev pub LeavesSymbols : (Symbols → Symbols → Type 0) → Type 0
   LeavesSymbols Q =
       Q
@@ -42,7 +42,7 @@ module _ (n m : ℕ) (symbol_real symbol_imaginary : Lends Float) (reliable : Le
       (record { real = symbol_real.exit.now; imaginary = symbol_imaginary.exit.now; reliable = reliable.exit.now; count = m })
 
 -- ---- the stage with its row of symbols
-module _ (t : Recovered) (keeper_real keeper_imaginary clock_real clock_imaginary weight_real weight_imaginary symbol_real symbol_imaginary : Now Float) (reliable : Now Bool) where
+module _ (t : Recovered) (keeper_real keeper_imaginary clock_real clock_imaginary weight_real weight_imaginary symbol_real symbol_imaginary : NowMut Float) (reliable : NowMut Bool) where
   abbrev pub GivenRow : (Lent → Type 0) → Type 0
   GivenRow P =
       P
@@ -55,7 +55,7 @@ module _ (t : Recovered) (keeper_real keeper_imaginary clock_real clock_imaginar
         symbols = record { real = symbol_real.now; imaginary = symbol_imaginary.now; reliable = reliable.now; count = t.count };
       })
 
-module _ (t r : Recovered) (keeper_real keeper_imaginary clock_real clock_imaginary weight_real weight_imaginary symbol_real symbol_imaginary : Lends Float) (reliable : Lends Bool) where
+module _ (t r : Recovered) (keeper_real keeper_imaginary clock_real clock_imaginary weight_real weight_imaginary symbol_real symbol_imaginary : LendsMut Float) (reliable : LendsMut Bool) where
   abbrev pub LeavesRow : (Lent → Lent → Type 0) → Type 0
   LeavesRow Q =
       Q

@@ -1,5 +1,7 @@
 // Recovery: a row of resampled values to a row of equalized symbols, each with whether it is reliable,
 // through peak keeper, clock and equalizer. Rings and weights are planes that the caller lends.
+#![tactic(auto)]
+
 ghost use Rattle.std.specs.Prelude.{◌≡◌};
 ghost use Rattle.recovery.specs.Recovery.{admitted_of};
 ghost use Rattle.recovery.specs.Rows.{recovered_of};

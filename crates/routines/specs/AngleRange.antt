@@ -12,7 +12,7 @@ use Rattle.laws.specs.FloatRounding.{signed, round_signed, le_neg}
 use Rattle.laws.specs.FloatSums.{In, in_finite, in_wider, sub_in}
 use Rattle.laws.specs.FloatValues.{round_most, no_nan_fin}
 use Rattle.numbers.specs.Numbers.{abs_of, sign_of, is_finite, convert}
-use Rattle.numbers.specs.Faithful.{keeps_over}
+use Rattle.numbers.proofs.Faithful.{keeps_over}
 use Rattle.routines.specs.Circle.{one, under, with_sign}
 use Rattle.routines.specs.Angle.{nought, quarter_pi, half_pi, pi, factor_of, arc_of, quadrant_arc, mirrored_of, arc_size, arctangent_of, A1, A2, A3, A4, A5, A6, A7, A8, A9, A10, A11, A12}
 use Rattle.laws.specs.FloatSizes.{nonneg_finite}

@@ -14,7 +14,7 @@ use Rattle.laws.specs.FloatValues.{round_least, round_most, id_nonneg}
 use Rattle.numbers.specs.Numbers.{convert}
 use Rattle.numbers.specs.Root.{round_root, sqrt_of}
 use Rattle.numbers.specs.RootOrder.{root_above, root_below}
-use Rattle.numbers.specs.Faithful.{sqrt_is}
+use Rattle.numbers.proofs.Faithful.{sqrt_is}
 use Rattle.routines.specs.Hypotenuse.{encloses_of}
 use Rattle.routines.specs.Squares.{square_is, not_under, convert_up, convert_fits, sqrt_up}
 

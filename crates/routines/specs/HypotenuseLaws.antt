@@ -19,7 +19,7 @@ use Rattle.laws.specs.FloatSizes.{capped, nonneg_finite}
 use Rattle.numbers.specs.Numbers.{convert}
 use Rattle.numbers.specs.Nearest.{Value}
 use Rattle.numbers.specs.Root.{sqrt_of}
-use Rattle.numbers.specs.Faithful.{root_under, root_over}
+use Rattle.numbers.proofs.Faithful.{root_under, root_over}
 use Rattle.routines.specs.Hypotenuse.{infinite, root_of_squares, hypotenuse_of, squares_over, squares_under, Between}
 use Rattle.routines.specs.Squares.{square_is, nonneg_of, not_under, convert_up, convert_fits, sqrt_up}
 

@@ -9,7 +9,7 @@ use Rattle.laws.specs.FloatOrder.{nonneg}
 use Rattle.laws.specs.FloatRounding.{signed, round_signed}
 use Rattle.numbers.specs.Numbers.{convert}
 use Rattle.numbers.specs.Root.{sqrt_of}
-use Rattle.numbers.specs.Faithful.{root_up}
+use Rattle.numbers.proofs.Faithful.{root_up}
 
 pub square_is : (f : Format) (s : Bool) (m : ℕ) (e : ℤ) → mul f (fin s m e) (fin s m e) ≡ round f false (m * up e * (m * up e)) (down e * down e)
 unfolding mul

@@ -1,5 +1,7 @@
 // The constellation view: the last 1,024 differential points, for display alone; nothing of it goes
 // back into the receiver. Its ring is two planes that the caller lends, real and imaginary parts.
+#![tactic(auto)]
+
 ghost use Rattle.std.specs.Prelude.{◌≡◌, ◌+◌, ◌*◌, ◌<◌, ◌≤◌, min, true, length};
 ghost use Rattle.signal.specs.Signal.{WrittenPoints, Read, fresh_place, admitted_of, rotated_of, paired_of, pushed_of, mean_of, missed_of, written_of, usable_of, read_of};
 ghost use Rattle.signal.specs.Lends.{Reads, Leaves, ReadsPoints, LeavesFloats};

@@ -17,8 +17,8 @@ returns c =
       first_word = first.fits;
       second_word = second.fits;
       third_word = third.fits;
-      a_word = a.type-inv;
-      b_word = b.type-inv;
-      c_word = d.type-inv;
+      a_word = a.type_inv;
+      b_word = b.type_inv;
+      c_word = d.type_inv;
     } in
-    rw (to_z-of_z (record { sfits = c.signed.type_inv })) (combed_is c.args.y c.args.sum a.result b.result d.result c.signed.result words a.ensures b.ensures d.ensures c.signed.ensures)
+    rw (to_z-of_z (record { sfits = c.signed.type_inv })) (combed_is c.args.y c.args.sum a.result b.result d.result c.signed.result words a.ensures.value b.ensures.value d.ensures.value c.signed.ensures)

@@ -4,8 +4,8 @@ use Rattle.decimator.proofs.delivered.Goals as goal
 
 pub returns-in-Silent : goal.returns-in-Silent
 unfolding output_of
-returns-in-Silent c = rw c.enum_told-1.given.1
+returns-in-Silent c = rw c.in-Silent.is
 
 pub returns-in-Sum : goal.returns-in-Sum
 unfolding output_of
-returns-in-Sum c = rw (c.scaled.ensures, c.raw-1.given.1)
+returns-in-Sum c = rw (c.scaled.ensures, c.in-Sum.is)

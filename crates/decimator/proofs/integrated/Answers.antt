@@ -10,4 +10,4 @@ returns c =
     let b = c.wrapping_add_u64-second in
     let e = c.unsigned in
     integrated_is c.args.s c.args.n e.result a.result b.result c.wrapping_add_u64-third.result c.ranges.n.sfits
-    (e.ensures ∙ ap unsigned_of (to_z-of_z c.ranges.n)) a.ensures b.ensures c.wrapping_add_u64-third.ensures
+    (e.ensures ∙ ap unsigned_of (to_z-of_z c.ranges.n)) a.ensures.value b.ensures.value c.wrapping_add_u64-third.ensures.value

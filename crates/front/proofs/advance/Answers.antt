@@ -19,4 +19,5 @@ pub returns : goal.returns
 returns c =
     let draw = c.draw-s in
     let offered = c.offered-l in
-    let e = advance_is _ _ _ c.args.t c.args.from _ _ _ _ draw.result offered.result _ _ _ _ draw.ensures.0 offered.ensures.0 in record { same = e; left = filled_on _ _ _ _ _ c.requires.admitted c.requires.made_bound c.requires.used_in_bounds e; kept = moved_is c.args.t _ draw.result offered.result c.requires.admitted (left_some _ _ c.requires.used_in_bounds) draw.ensures.1 offered.ensures.1 }
+    let e = advance_is _ _ _ c.args.t c.args.from _ _ _ _ draw.result offered.result _ _ _ _ draw.ensures.same offered.ensures.same in
+    record { same = e; left = filled_on _ _ _ _ _ c.requires.admitted c.requires.made_bound c.requires.used_in_bounds e; kept = moved_is c.args.t _ draw.result offered.result c.requires.admitted (left_some _ _ c.requires.used_in_bounds) draw.ensures.kept offered.ensures.kept }

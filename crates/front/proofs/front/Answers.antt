@@ -17,7 +17,15 @@ advance-t-requires c =
     let going = c.loop-t.invariant.0 in
     let samples_left = c.loop-t-test.true in
     let room_left = c.if-made-gt-ROOM.false in
-    advance_asks _ _ _ _ _ _ _ going c.requires.numbers refl refl samples_left c.requires.from_bound c.requires.arm_in_bounds room_left
+    let asks = advance_asks _ _ _ _ _ _ _ going c.requires.numbers refl refl samples_left c.requires.from_bound c.requires.arm_in_bounds room_left in
+    record {
+      admitted = asks.0;
+      numbers = asks.1.0;
+      arm_in_bounds = asks.1.1.0;
+      index_bound = asks.1.1.1.0;
+      made_bound = asks.1.1.1.1.0;
+      used_in_bounds = asks.1.1.1.1.1;
+    }
 
 pub loop-t-smaller : goal.loop-t-smaller
 loop-t-smaller c =

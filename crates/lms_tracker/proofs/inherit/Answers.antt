@@ -1,6 +1,5 @@
 -- `follow::inherit` meets its contract: each turn of the loop puts the taps of one state's parent in that state's places.
 use mathlib.Core.Path.{◌∙◌}
-use Prim.Native.Nat.{◌-◌}
 use native.Mathlib.Omega.{arith}
 use Rattle.laws.specs.Turns.{turns_start}
 use Rattle.channels.specs.Laws.{put_length, put_step, real_end, imaginary_end}

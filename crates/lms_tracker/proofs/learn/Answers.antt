@@ -1,13 +1,11 @@
 -- `follow::learn` meets its contract: each turn of the loop puts one state's taps, moved from its parent's, in that state's places, and their power beside them.
 use mathlib.Core.Path.{◌∙◌}
-use Prim.Native.Nat.{◌-◌}
 use native.Mathlib.Omega.{arith}
 use lib.Ieee.{nan}
 use Rattle.laws.specs.Places.{fill_start, fill_end}
 use Rattle.laws.specs.Turns.{turns_start}
 use Rattle.channels.specs.Laws.{put_length, put_step, real_end, imaginary_end}
 use Rattle.lms_tracker.specs.Laws.{norms_step, learnt_is}
-use Rattle.lms_tracker.specs.Tracker.{norm_of}
 use borrow.Author.Rules.{rules}
 use Rattle.lms_tracker.proofs.learn.Goals as goal
 

@@ -1,6 +1,5 @@
 -- `follow::limit` meets its contract: each turn of the loop limits one state's taps, and no other place moves.
 use mathlib.Core.Path.{◌∙◌}
-use Prim.Native.Nat.{◌-◌}
 use Rattle.laws.specs.Turns.{turns_start}
 use Rattle.lms_tracker.specs.Laws.{limit_length, limit_step, limit_end}
 use borrow.Author.Rules.{rules}

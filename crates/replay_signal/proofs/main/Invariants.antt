@@ -5,7 +5,7 @@ use lib.ListN.{length}
 use Rattle.replay_signal.proofs.main.Given as goal
 
 abbrev pub invariant-loop-left : goal.invariant-loop-left
-invariant-loop-left l = (l.left ≤ 1000000) × (length «record» ≡ 24)
+invariant-loop-left l = (l.left ≤ 1000000) × (length l.record ≡ 24)
 
 abbrev pub decreases-loop-left : goal.decreases-loop-left
 decreases-loop-left l = l.left

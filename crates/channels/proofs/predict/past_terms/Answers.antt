@@ -1,5 +1,4 @@
 -- `predict::past_terms` meets its contract: each turn of the loop writes one prior's three terms, tap after tap.
-use Prim.Native.Nat.{◌-◌}
 use Rattle.laws.specs.Turns.{turns_start}
 use Rattle.channels.specs.Laws.{past_step, past_end}
 use borrow.Author.Rules.{rules}

@@ -1,5 +1,4 @@
 -- `copy_four` meets its contract: after e turns the first e numbers of the four inverses are laid.
-use Prim.Native.Nat.{◌-◌}
 use Rattle.inheriting.specs.Laws.{fours_start, fours_step, fours_end}
 use borrow.Author.Rules.{rules}
 use Rattle.inheriting.proofs.copied.copy_four.Goals as goal

@@ -1,5 +1,5 @@
 -- `inherit_inverses` meets its contract: after m turns the first 4 m states have their parents' inverses.
-use Prim.Native.Nat.{◌+◌, ◌-◌, ◌*◌}
+use Prim.Native.Nat.{◌+◌, ◌*◌}
 use native.Mathlib.Omega.{arith}
 use Rattle.inheriting.specs.Laws.{inherit_start, inherit_step, inherit_end}
 use borrow.Author.Rules.{rules}
@@ -41,12 +41,11 @@ place_of-d-requires c =
     c.requires.1.below (16 * c.args.g + 4 * c.loop-m.m + 3) (search rules)
 
 pub loop-m-preserved : goal.loop-m-preserved
-loop-m-preserved c =
-    (
-      search rules,
-      inherit_step _ _ _ _ _ _ _ _ (search rules) (search rules) c.place_of-a.ensures.same c.place_of-b.ensures.same c.place_of-c.ensures.same c.place_of-d.ensures.same _ _ _
-          c.copy_family.ensures c.loop-m.invariant.1,
-    )
+loop-m-preserved c = (
+  search rules,
+  inherit_step _ _ _ _ _ _ _ _ (search rules) (search rules) c.place_of-a.ensures.same c.place_of-b.ensures.same c.place_of-c.ensures.same c.place_of-d.ensures.same _ _ _
+      c.copy_family.ensures c.loop-m.invariant.1,
+)
 
 pub returns : goal.returns
 returns c = inherit_end _ _ _ _ _ _ (search rules) c.loop-m.invariant.1 (search rules) (search rules)

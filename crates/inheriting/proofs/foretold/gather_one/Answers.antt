@@ -1,5 +1,4 @@
 -- `gather_one` meets its contract: after x turns the first x numbers of each quarter are laid.
-use Prim.Native.Nat.{◌-◌}
 use Rattle.inheriting.specs.Foretold.{foretold_start, foretold_step, foretold_end}
 use borrow.Author.Rules.{rules}
 use Rattle.inheriting.proofs.foretold.gather_one.Goals as goal

@@ -1,5 +1,4 @@
 -- `cross` meets its contract: after j rows of l lanes the first 16 j + l sums are laid.
-use Prim.Native.Nat.{◌-◌}
 use native.Mathlib.Omega.{arith}
 use Rattle.lane_sums.specs.LaneLaws.{pairs_start, from_start, from_step, from_end, lanes_end}
 use Rattle.lane_sums.specs.Laws.{cross_is}

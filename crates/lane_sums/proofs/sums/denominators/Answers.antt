@@ -1,5 +1,4 @@
 -- `denominators` meets its contract: after l turns the first l lanes are done.
-use Prim.Native.Nat.{◌-◌}
 use lib.Ieee.{nan}
 use Rattle.laws.specs.Places.{fill_start, fill_end}
 use Rattle.lane_sums.specs.Laws.{denominator_step}

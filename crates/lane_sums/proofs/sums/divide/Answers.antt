@@ -1,5 +1,4 @@
 -- `divide` meets its contract: after i rows of l lanes the first 16 i + l quotients are laid.
-use Prim.Native.Nat.{◌-◌}
 use native.Mathlib.Omega.{arith}
 use Rattle.lane_sums.specs.LaneLaws.{pairs_start, from_start, from_step, from_end, lanes_end}
 use Rattle.lane_sums.specs.Laws.{divide_is}

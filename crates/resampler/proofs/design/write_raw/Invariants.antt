@@ -5,7 +5,7 @@ use Rattle.laws.specs.Turns.{turns}
 use Rattle.resampler.proofs.design.write_raw.Given as goal
 
 abbrev pub invariant-loop-i : goal.invariant-loop-i
-invariant-loop-i l = (l.i ≤ l.last) × (length l.table ≡ length l.initial.table) × (◌≡◌ {A = Raw} (record { l.sum = l.sum; l.table = l.table }) (turns (both_turn l.omega l.arm) l.i (start_raw l.initial.table)))
+invariant-loop-i l = (l.i ≤ l.last) × (length l.table ≡ length l.initial.table) × (◌≡◌ {A = Raw} (record { sum = l.sum; table = l.table }) (turns (both_turn l.omega l.arm) l.i (start_raw l.initial.table)))
 
 abbrev pub decreases-loop-i : goal.decreases-loop-i
 decreases-loop-i l = l.last - l.i

@@ -22,7 +22,7 @@ emitted-e-requires c =
     let loop = c.loop-r in
     let placed = c.placed-p in
     let due = sym c.is_waiting.ensures ∙ c.if-is_waiting.false in
-    stands_few c.args.r c.requires.passing c.args.table.now c.args.reals.now c.args.imaginaries.now loop.d loop.invariant placed.result placed.ensures.0 due
+    stands_few c.args.r c.requires.passing c.args.table.now c.args.reals.now c.args.imaginaries.now loop.d loop.invariant placed.result placed.ensures.same due
 
 pub loop-r-smaller : goal.loop-r-smaller
 loop-r-smaller c =
@@ -30,8 +30,8 @@ loop-r-smaller c =
     let placed = c.placed-p in
     let due = sym c.is_waiting.ensures ∙ c.if-is_waiting.false in
     let filtered = c.filtered-v in
-    let few = stands_few c.args.r c.requires.passing c.args.table.now c.args.reals.now c.args.imaginaries.now loop.d loop.invariant placed.result placed.ensures.0 due in
-    let more = one_output c.args.r c.requires.passing c.args.table.now c.args.reals.now c.args.imaginaries.now loop.d loop.invariant placed.result placed.ensures.0 due
+    let few = stands_few c.args.r c.requires.passing c.args.table.now c.args.reals.now c.args.imaginaries.now loop.d loop.invariant placed.result placed.ensures.same due in
+    let more = one_output c.args.r c.requires.passing c.args.table.now c.args.reals.now c.args.imaginaries.now loop.d loop.invariant placed.result placed.ensures.same due
     filtered.result c.emitted-e.result filtered.ensures c.emitted-e.ensures in
     omega arith
 
@@ -41,11 +41,11 @@ loop-r-preserved c =
     let placed = c.placed-p in
     let due = sym c.is_waiting.ensures ∙ c.if-is_waiting.false in
     let filtered = c.filtered-v in
-    stands_next c.args.r c.requires.passing c.args.table.now c.args.reals.now c.args.imaginaries.now loop.d loop.invariant placed.result placed.ensures.0 due
+    stands_next c.args.r c.requires.passing c.args.table.now c.args.reals.now c.args.imaginaries.now loop.d loop.invariant placed.result placed.ensures.same due
     filtered.result c.emitted-e.result filtered.ensures c.emitted-e.ensures
 
 pub returns : goal.returns
 returns c =
     let loop = c.loop-r in
     let placed = c.placed-p in
-    stands_last c.args.r c.requires.passing c.args.table.now c.args.reals.now c.args.imaginaries.now loop.d loop.invariant placed.result placed.ensures.0 (sym c.is_waiting.ensures ∙ c.if-is_waiting.true)
+    stands_last c.args.r c.requires.passing c.args.table.now c.args.reals.now c.args.imaginaries.now loop.d loop.invariant placed.result placed.ensures.same (sym c.is_waiting.ensures ∙ c.if-is_waiting.true)

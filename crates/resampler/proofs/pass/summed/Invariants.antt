@@ -6,7 +6,7 @@ use Rattle.laws.specs.Turns.{turns}
 use Rattle.resampler.proofs.pass.summed.Given as goal
 
 abbrev pub invariant-loop-i : goal.invariant-loop-i
-invariant-loop-i l = (l.i ≤ l.count) × (◌≡◌ {A = Complex32} (record { l.real = l.real; l.imaginary = l.imaginary }) (turns (run_turn l.reals l.imaginaries l.from l.table l.base) l.i (record { l.real = l.initial.real; l.imaginary = l.initial.imaginary })))
+invariant-loop-i l = (l.i ≤ l.count) × (◌≡◌ {A = Complex32} (record { real = l.real; imaginary = l.imaginary }) (turns (run_turn l.reals l.imaginaries l.from l.table l.base) l.i (record { real = l.initial.real; imaginary = l.initial.imaginary })))
 
 abbrev pub decreases-loop-i : goal.decreases-loop-i
 decreases-loop-i l = l.count - l.i

@@ -1,5 +1,4 @@
 -- `settling::group::renew` meets its contract.
-use Prim.Native.Nat.{◌-◌}
 use native.Mathlib.Omega.{arith}
 use Rattle.settling.specs.Sweeps.{swept_start, swept_fits}
 use Rattle.settling.specs.Groups.{renew_step, renew_end}

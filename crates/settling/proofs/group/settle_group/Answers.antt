@@ -1,5 +1,4 @@
 -- `settling::group::settle_group` meets its contract.
-use Prim.Native.Nat.{◌-◌}
 use native.Mathlib.Omega.{arith}
 use Rattle.settling.specs.Sweeps.{swept_start, swept_fits}
 use Rattle.settling.specs.Groups.{quad_step, mend_step, group_end}

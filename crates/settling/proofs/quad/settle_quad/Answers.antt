@@ -1,5 +1,4 @@
 -- `settling::quad::settle_quad` meets its contract.
-use Prim.Native.Nat.{◌-◌}
 use native.Mathlib.Omega.{arith}
 use Rattle.settling.specs.Sweeps.{swept_start, turned_fits}
 use Rattle.settling.specs.Quads.{row_turn, row_end, quad_end}

@@ -8,12 +8,12 @@ pub loop-j-init : goal.loop-j-init
 loop-j-init c = (search rules, search rules, refl, turns_start _ _, turns_start _ _, turns_start _ _)
 
 pub quotient-requires : goal.quotient-requires
-quotient-requires c = let p = c.requires.1.1.1.1.1 in record { x_value = p.0.real _ c.loop-j-test.true; plain_amplitude = p.1 }
+quotient-requires c = let p = c.requires in record { x_value = p.plain_run.real _ c.loop-j-test.true; plain_amplitude = p.plain_amplitude }
 
 pub quotient-requires-in-loop-j : goal.quotient-requires-in-loop-j
 quotient-requires-in-loop-j c =
     let more = c.loop-j-test.true in
-    let p = c.requires.1.1.1.1.1 in record { x_value = p.0.imaginary _ more; plain_amplitude = p.1 }
+    let p = c.requires in record { x_value = p.plain_run.imaginary _ more; plain_amplitude = p.plain_amplitude }
 
 pub write_point-sum-requires : goal.write_point-sum-requires
 write_point-sum-requires c =

@@ -22,7 +22,7 @@ use Rattle.std.specs.Float.Ieee.Positive.{num, den, den_pos, positive}
 use Rattle.laws.specs.FloatOrder.{nonneg}
 use Rattle.numbers.specs.Numbers.{convert}
 use Rattle.patterns.specs.Shift.{Cmp, cmp}
-use Rattle.numbers.specs.Faithful.{sqrt_is}
+use Rattle.numbers.proofs.Faithful.{sqrt_is}
 use Rattle.numbers.specs.Root.{isqrt, closest_root, round_root, sqrt_of}
 use Rattle.numbers.specs.Roots.{isqrt_is, closest_root_is}
 use Rattle.numbers.specs.RootOrder.{drop_r, kept_r, kept_le, kept_ge, kept_r_le, kept_r_ge, all_in_use, round_root_is}
