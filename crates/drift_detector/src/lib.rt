@@ -25,7 +25,7 @@ fn ready(
     reliable: bool,
 )
     requires { (length channel_real.old ≡ 256) × (length channel_imaginary.old ≡ 256) }
-    ensures { Planes.leaves channel_real channel_imaginary (λ before after.
+    ensures { Planes.Leaves channel_real channel_imaginary (λ before after.
         after ≡ channels_for before drift.now reliable) }
 {
     if reliable {
