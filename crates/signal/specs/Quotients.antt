@@ -1,5 +1,5 @@
 -- A plain part over a plain amplitude is a usual number, and a usual number is narrowed by rounding its bits in place. Assumes nothing.
-use Rattle.std.specs.Prelude.{◌≡◌, ℕ, zero, ◌+◌, ◌-◌, ◌*◌, ◌/◌, ◌%◌, ◌^◌, ◌<◌, ◌≤◌, Bool, true, false, cond, not, ◌&&◌, ◌||◌, T, leb, ◌⊎◌, ℤ, pos, negsuc, ◌==◌, nat_le, Float}
+use Rattle.std.specs.Prelude.{◌≡◌, ℕ, ◌+◌, ◌-◌, ◌*◌, ◌/◌, ◌%◌, ◌^◌, ◌<◌, ◌≤◌, Bool, true, false, cond, not, ◌&&◌, ◌||◌, T, leb, ◌⊎◌, ℤ, pos, negsuc, ◌==◌, nat_le, Float}
 use Rattle.std.proofs.Math.Path.{refl, ap}
 use Rattle.std.proofs.Common.{sym, ◌∙◌, subst, true≢false, le_trans, le_of_eq, lt_of_lt_of_le, lt_of_le_of_lt, lt_of_not-le, not-le_of_lt, eq-zero-or-pos, mul-pos, mul_comm, mul_assoc, mul_right_comm, mul-le-mul, mul-le-mul_right, mul-lt-mul_of_pos_right, le_of_mul-le-mul_right, zero-mul, eqb→eq, leb→le, pow-add, pow_pos, pow_mono, shl_lt, le-leb}
 use Rattle.std.proofs.Math.Logic.{inl, inr, ⊎_elim}

@@ -1,5 +1,5 @@
 -- `clock::update` meets its contract: the invariant is rate and phase after k turns.
-use Rattle.std.proofs.Common.{◌-◌, rules}
+use Rattle.std.proofs.Common.{rules}
 use lib.Ieee.{of_bits, neg}
 use Rattle.laws.specs.Turns.{turns_start, turns_step}
 use Rattle.clock.specs.Laws.{update_is}

@@ -1,5 +1,4 @@
 -- `equalizer::adapt` meets its contract: the invariant is the weights after k turns.
-use Prim.Native.Nat.{◌-◌}
 use Rattle.laws.specs.Turns.{turns_start, turns_step, turns_end}
 use Rattle.equalizer.specs.Equalizer.{adapted_of}
 use borrow.Author.Rules.{rules}

@@ -1,5 +1,4 @@
 -- `equalizer::norm` meets its contract: the invariant is the sum of the first k powers.
-use Prim.Native.Nat.{◌-◌}
 use Rattle.laws.specs.Turns.{turns_start, turns_step, turns_end}
 use Rattle.equalizer.specs.Equalizer.{norm_of}
 use borrow.Author.Rules.{rules}

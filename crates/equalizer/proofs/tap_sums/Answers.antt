@@ -1,5 +1,4 @@
 -- `equalizer::tap_sums` meets its contract: the invariant is the sums over the first k taps.
-use Prim.Native.Nat.{◌-◌}
 use mathlib.Core.Path.{◌∙◌}
 use Rattle.laws.specs.Turns.{turns_step, turns_none, turns_end}
 use Rattle.equalizer.specs.Equalizer.{tap_sums_of}

@@ -1,6 +1,5 @@
 -- `peak::envelopes` meets its contract: the invariant is the first k envelopes filled.
 use mathlib.Core.Path.{ap}
-use Prim.Native.Nat.{◌-◌}
 use lib.ListN.{set, length-set}
 use lib.Ieee.{Float, nan}
 use Rattle.laws.specs.Places.{fill_start, fill_step, fill_end}

@@ -5,7 +5,7 @@ use Rattle.clock.specs.Ranged.{truncates, within48}
 use Rattle.clock.proofs.phase.ceiling.Goals as goal
 
 pub truncating_f32_to_u64-whole-requires : goal.truncating_f32_to_u64-whole-requires
-truncating_f32_to_u64-whole-requires c = truncates _ (within48 _ c.requires)
+truncating_f32_to_u64-whole-requires c = let t = truncates _ (within48 _ c.requires) in record { lower_bound = t.0; upper_bound = t.1 }
 
 pub overflow_cast-whole : goal.overflow_cast-whole
 overflow_cast-whole c = let k = whole_most _ c.requires in omega (arith, c.truncating_f32_to_u64-whole.ensures)

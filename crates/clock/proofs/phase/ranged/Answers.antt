@@ -6,7 +6,7 @@ pub returns-then-phase : goal.returns-then-phase
 returns-then-phase c = c.ranged_below.ensures
 
 pub truncating_f32_to_u64-whole-requires : goal.truncating_f32_to_u64-whole-requires
-truncating_f32_to_u64-whole-requires c = truncates _ (middle_in _ c.requires c.if-phase.false c.if-phase-2.true)
+truncating_f32_to_u64-whole-requires c = let t = truncates _ (middle_in _ c.requires c.if-phase.false c.if-phase-2.true) in record { lower_bound = t.0; upper_bound = t.1 }
 
 pub returns-then-phase-2 : goal.returns-then-phase-2
 returns-then-phase-2 c =
@@ -14,7 +14,7 @@ returns-then-phase-2 c =
     record { same = held _ _ _ _ same; few = same.few }
 
 pub truncating_f32_to_u64-whole-requires-then-phase-3 : goal.truncating_f32_to_u64-whole-requires-then-phase-3
-truncating_f32_to_u64-whole-requires-then-phase-3 c = truncates _ (high_in _ c.requires c.if-phase.false c.if-phase-3.true)
+truncating_f32_to_u64-whole-requires-then-phase-3 c = let t = truncates _ (high_in _ c.requires c.if-phase.false c.if-phase-3.true) in record { lower_bound = t.0; upper_bound = t.1 }
 
 pub overflow_sub-result : goal.overflow_sub-result
 overflow_sub-result c =

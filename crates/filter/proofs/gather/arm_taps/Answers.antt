@@ -1,5 +1,4 @@
 -- `filter::gather::arm_taps` meets its contract: the invariant is the first i taps filled.
-use Prim.Native.Nat.{◌-◌}
 use lib.Ieee.{nan}
 use Rattle.laws.specs.Places.{fill_end}
 use Rattle.filter.specs.Filter.{arm_taps_of}

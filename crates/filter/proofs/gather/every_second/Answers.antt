@@ -1,5 +1,4 @@
 -- `filter::gather::every_second` meets its contract: the invariant is the first j samples filled.
-use Prim.Native.Nat.{◌-◌}
 use mathlib.Core.Path.{refl}
 use lib.Ieee.{nan}
 use Rattle.laws.specs.Places.{fill_start, fill_step, fill_end}

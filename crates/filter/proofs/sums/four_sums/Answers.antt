@@ -1,5 +1,4 @@
 -- `filter::sums::four_sums` meets its contract: the invariant is the sums over the first 2 j taps.
-use Prim.Native.Nat.{◌-◌}
 use mathlib.Core.Path.{◌∙◌}
 use Rattle.filter.specs.Laws.{four_start, four_even, four_odd, four_last}
 use borrow.Author.Rules.{rules}

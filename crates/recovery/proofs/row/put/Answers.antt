@@ -3,7 +3,7 @@ use Rattle.recovery.specs.Laws.{put_none, put_here}
 use Rattle.recovery.proofs.row.put.Goals as goal
 
 pub returns-in_default : goal.returns-in_default
-returns-in_default c = put_none _ _ c.enum_told-1.given.1
+returns-in_default c = put_none _ _ c.in_default.is
 
 pub returns : goal.returns
-returns c = put_here _ _ _ _ c.found-1.given.1
+returns c = put_here _ _ _ _ c.in-Here.is

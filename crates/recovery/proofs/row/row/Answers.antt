@@ -1,5 +1,4 @@
 -- `recovery::row::row` meets its contract: the invariant is the stage and its row after i values, and the sizes that go with it.
-use Prim.Native.Nat.{◌-◌}
 use native.Mathlib.Omega.{arith}
 use Rattle.recovery.specs.Laws.{row_start, row_step, row_asks, row_end}
 use borrow.Author.Rules.{rules}

@@ -9,7 +9,7 @@ keep-k-requires c =
     record { head_bound = asked.given.keeper.head; real_len = asked.given.keeper.real_size; imaginary_len = asked.given.keeper.imaginary_size; sizes_value = asked.sizes_value }
 
 pub returns-in_default : goal.returns-in_default
-returns-in_default c = (stepped_filling _ _ _ _ _ c.keep-k.ensures.same c.enum_told-1.given.1, c.keep-k.ensures.envelopes)
+returns-in_default c = (stepped_filling _ _ _ _ _ c.keep-k.ensures.same c.in_default.is, c.keep-k.ensures.envelopes)
 
 pub step-t-requires : goal.step-t-requires
 step-t-requires c =
@@ -19,13 +19,13 @@ step-t-requires c =
 pub returns-in_default-due : goal.returns-in_default-due
 returns-in_default-due c =
     let is_kept = c.keep-k.ensures in
-    let is_level = c.level-1.given.1 in
-    (stepped_waiting _ _ _ _ _ is_kept.same _ _ is_level _ c.step-t.ensures.same c.enum_told-in_default-due-1.given.1, is_kept.envelopes)
+    let is_level = c.in-At.is in
+    (stepped_waiting _ _ _ _ _ is_kept.same _ _ is_level _ c.step-t.ensures.same c.in_default-due.is, is_kept.envelopes)
 
 pub returns : goal.returns
 returns c =
     let is_kept = c.keep-k.ensures in
-    let is_level = c.level-1.given.1 in
+    let is_level = c.in-At.is in
     let is_clocked = c.step-t.ensures in
-    let is_due = c.enum_told-in-Symbol-1.given.1 in
+    let is_due = c.in-Symbol.is in
     (stepped_here _ _ _ _ _ is_kept.same _ _ is_level _ is_clocked.same _ _ _ _ is_due c.equalize-e.ensures c.update-turned.ensures, is_kept.envelopes)

@@ -1,5 +1,5 @@
 -- `signal::plain::power_run` meets its contract: the invariant is the power of the first i points.
-use Rattle.std.proofs.Common.{◌-◌, ◌∙◌, rules}
+use Rattle.std.proofs.Common.{◌∙◌, rules}
 use Rattle.laws.specs.Turns.{turns_start, turns_step, turns_end}
 use Rattle.signal.proofs.plain.power_run.Goals as goal
 

@@ -1,5 +1,5 @@
 -- `signal::rows::divide_row` meets its contract: the invariant is the row after j turns, each with its two quotients.
-use Rattle.std.proofs.Common.{◌-◌, length-set, rules}
+use Rattle.std.proofs.Common.{length-set, rules}
 use Rattle.laws.specs.Turns.{turns_start, turns_step, turns_end}
 use Rattle.signal.proofs.rows.divide_row.Goals as goal
 
