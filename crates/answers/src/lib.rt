@@ -3,6 +3,8 @@
 //
 // Lent: the parents, step after step (state s of the step at w at 64 w + s). The soft records are the
 // caller's, by value: `oldest` reads the one that a step needs.
+#![tactic(auto)]
+
 pub mod combine;
 pub mod soft;
 pub mod walk;

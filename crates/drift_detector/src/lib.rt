@@ -1,6 +1,8 @@
 // The detector with the second tracker: where the input is reliable the taps go on by their drift, then
 // the skeleton takes its step with the channels as they stand, and then taps, drifts and inverses follow
 // by least squares what was received.
+#![tactic(auto)]
+
 ghost use Rattle.std.specs.Prelude.{◌≡◌, length};
 ghost use Rattle.complex.specs.Lends as Planes;
 ghost use Rattle.drift_detector.specs.Detector.{channels_for, detected_of};
@@ -25,7 +27,7 @@ fn ready(
     reliable: bool,
 )
     requires { (length channel_real.old ≡ 256) × (length channel_imaginary.old ≡ 256) }
-    ensures { Planes.leaves channel_real channel_imaginary (λ before after.
+    ensures { Planes.Leaves channel_real channel_imaginary (λ before after.
         after ≡ channels_for before drift.now reliable) }
 {
     if reliable {

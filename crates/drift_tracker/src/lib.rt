@@ -3,6 +3,8 @@
 // step, so that taps which move at a steady pace are followed without lag.
 //
 // Sixteen states at a time are taken into rooms of lanes (`least_squares`), where their step is made.
+#![tactic(auto)]
+
 pub mod follow;
 mod lanes;
 pub mod onward;

@@ -5,5 +5,7 @@
 //
 // Lent planes: channels tap after tap (tap t of the state s at s + 64 t), costs by state, parents step
 // after step. The soft records are the caller's, by value; a step's own comes back with its answer.
+#![tactic(auto)]
+
 pub mod admitted;
 pub mod step;

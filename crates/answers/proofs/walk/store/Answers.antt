@@ -1,6 +1,5 @@
 -- `store` meets its contract: 64 turns lay the row in its place.
 use mathlib.Core.Path.{refl}
-use Prim.Native.Nat.{◌-◌}
 use Rattle.answers.specs.Walk.{stored_of}
 use Rattle.laws.specs.Places.{laid_start, laid_step, laid_end}
 use borrow.Author.Rules.{rules}

@@ -1,5 +1,4 @@
 -- `inherit_all` meets its contract: after g turns the first g groups have their parents' inverses.
-use Prim.Native.Nat.{◌-◌}
 use native.Mathlib.Omega.{arith}
 use Rattle.drift_tracker.specs.Laws.{inverses_start, inverses_length, inverses_end, inverse_kept}
 use borrow.Author.Rules.{rules}

@@ -1,5 +1,4 @@
 -- `learn_all` meets its contract: after g turns the first g groups have learnt.
-use Prim.Native.Nat.{◌-◌}
 use native.Mathlib.Omega.{arith}
 use Rattle.lane_sums.specs.LaneLaws.{lanes_length}
 use Rattle.drift_tracker.specs.Laws.{fours_start, fours_length, fours_end, inverses_start, inverses_length, inverses_end, taps_turn, drift_turn, inverse_turn}

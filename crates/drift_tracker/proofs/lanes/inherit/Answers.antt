@@ -1,5 +1,4 @@
 -- `inherit` meets its contract: after k turns the first k numbers are the parents'.
-use Prim.Native.Nat.{◌-◌}
 use native.Mathlib.Omega.{arith}
 use Rattle.lane_sums.specs.LaneLaws.{pairs_start, pairs_step}
 use Rattle.drift_tracker.specs.Laws.{inherit_is, drifts_end}

@@ -1,5 +1,4 @@
 -- `join` meets its contract: after k turns the first k points are laid.
-use Prim.Native.Nat.{◌-◌}
 use native.Mathlib.Omega.{arith}
 use Rattle.lane_sums.specs.LaneLaws.{pairs_start, pairs_step}
 use Rattle.drift_tracker.specs.Laws.{joined_is}

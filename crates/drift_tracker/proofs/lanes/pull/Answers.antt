@@ -1,5 +1,4 @@
 -- `pull` meets its contract: after t rows of l lanes the first 16 t + l numbers are moved.
-use Prim.Native.Nat.{◌-◌}
 use native.Mathlib.Omega.{arith}
 use Rattle.drift_tracker.specs.Laws.{put_start, put_none, pull_step, put_row, put_end}
 use borrow.Author.Rules.{rules}

@@ -1,6 +1,5 @@
 -- `split` meets its contract: after k turns the first k points are apart.
 use mathlib.Core.Path.{refl}
-use Prim.Native.Nat.{◌-◌}
 use lib.Ieee.{nan}
 use Rattle.laws.specs.Places.{fill_start, fill_step, fill_end}
 use borrow.Author.Rules.{rules}

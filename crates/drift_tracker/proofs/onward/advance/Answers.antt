@@ -1,5 +1,5 @@
 -- `advance` meets its contract: after k turns the first k taps have gone on.
-use Prim.Native.Nat.{◌+◌, ◌-◌}
+use Prim.Native.Nat.{◌+◌}
 use Rattle.drift_tracker.specs.Laws.{onward_start, onward_step, advanced_is}
 use borrow.Author.Rules.{rules}
 use Rattle.drift_tracker.proofs.onward.advance.Goals as goal

@@ -1,5 +1,4 @@
 -- `miss` meets its contract: after l turns the first l errors are laid.
-use Prim.Native.Nat.{◌-◌}
 use native.Mathlib.Omega.{arith}
 use Rattle.lane_sums.specs.LaneLaws.{pairs_start, pairs_step, pairs_end}
 use borrow.Author.Rules.{rules}

@@ -1,5 +1,4 @@
 -- `regress` meets its contract: after t rows of l lanes the first 16 t + l symbols are laid.
-use Prim.Native.Nat.{◌-◌}
 use native.Mathlib.Omega.{arith}
 use Rattle.lane_sums.specs.LaneLaws.{pairs_start, from_start, from_step, from_end, lanes_end}
 use Rattle.drift_tracker.specs.Laws.{regress_is}

@@ -3,4 +3,4 @@ use Rattle.sequence.specs.AdmittedLaws.{symbol_is}
 use Rattle.sequence.proofs.admitted.is_symbol.Goals as goal
 
 pub returns : goal.returns
-returns c = symbol_is _ _ c.previous-1.given.1
+returns c = symbol_is _ _ c.in-Symbol.is

@@ -1,5 +1,4 @@
 -- `largest` meets its contract: 2,048 turns of the larger of two.
-use Prim.Native.Nat.{◌-◌}
 use mathlib.Core.Path.{◌∙◌}
 use Rattle.laws.specs.Turns.{turns_start, turns_step, turns_end}
 use Rattle.sequence.specs.Admitted.{largest_of}

@@ -1,5 +1,4 @@
 -- `fresh_channels` meets its contract: 256 turns, each storing the fresh tap of its place.
-use Prim.Native.Nat.{◌-◌}
 use lib.Ieee.{nan}
 use Rattle.laws.specs.Places.{fill_start, fill_step, fill_end}
 use Rattle.sequence.specs.Sequence.{fresh_tap, fresh_real}
