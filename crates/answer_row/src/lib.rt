@@ -2,6 +2,8 @@
 // after the symbol. It lies in two arrays that the caller lends. Of symbol k, the flags have at 2k whether
 // there is a dibit and at 2k + 1 whether the carrier is locked; the bytes have at 3k the dibit and after
 // it the reliabilities of its higher and lower bit.
+#![tactic(auto)]
+
 ghost use Rattle.std.specs.Prelude.{◌≡◌, ◌<◌};
 ghost use Rattle.answer_row.specs.AnswerRow.{put_of, answer_at, told_at, locked_at};
 ghost use Rattle.answer_row.specs.Lends.{LeavesAnswers};

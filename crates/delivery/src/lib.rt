@@ -1,6 +1,8 @@
 // Delivery: a row of answers to dibits and reliabilities where the caller says. An answer is delivered only
 // where the other stream's row has one too: it is labelled by the profile, counted, and written after what
 // stands there.
+#![tactic(auto)]
+
 ghost use Rattle.std.specs.Prelude.{◌≡◌, ◌≤◌};
 ghost use Rattle.delivery.specs.Rows.{row_of};
 ghost use Rattle.delivery.specs.Ranges.{Asks};

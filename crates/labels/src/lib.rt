@@ -1,4 +1,6 @@
 // A dibit as its profile labels it, and what it adds to a count.
+#![tactic(auto)]
+
 ghost use Rattle.std.specs.Prelude.{◌≡◌, ◌<◌, min};
 ghost use Rattle.labels.specs.Labels.{rearranges, relabelled_of, labelled_of, most_symbols, counted_of};
 

@@ -12,7 +12,8 @@ use Rattle.numbers.specs.Constants.{zero32}
 use Rattle.complex.specs.declared.Complex32.{Complex32}
 use Rattle.taps.specs.Taps.{both_tables}
 use Rattle.trellis.specs.Metric.{c0, nought}
-use Rattle.trellis.specs.Costs.{c48, Good, fresh_good, good_same}
+use Rattle.trellis.specs.Costs.{c48, Good}
+use Rattle.trellis.proofs.CostsLaws.{fresh_good, good_same}
 use Rattle.answers.specs.declared.soft.Soft.{Soft}
 use Rattle.lms_detector.specs.Detector as lms_detector
 use Rattle.sequence.specs.Theorems.{costs_stepped}

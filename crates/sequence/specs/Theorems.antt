@@ -7,8 +7,9 @@ use Rattle.laws.specs.Ring.{lt_or_ge}
 use Rattle.laws.specs.FloatSums.{In}
 use Rattle.numbers.specs.Constants.{zero32}
 use Rattle.trellis.specs.Metric.{c0, nought}
-use Rattle.trellis.specs.Costs.{c48, Good, fresh_good, good_same}
-use Rattle.trellis.specs.Bound.{good_step}
+use Rattle.trellis.specs.Costs.{c48, Good}
+use Rattle.trellis.proofs.CostsLaws.{fresh_good, good_same}
+use Rattle.trellis.proofs.Bound.{good_step}
 use Rattle.complex.specs.declared.Complex32.{Complex32}
 use Rattle.complex.specs.Planes.{Planes}
 use Rattle.sequence.specs.declared.step.DetectorPlace.{DetectorPlace}

@@ -7,4 +7,3 @@ pub mod Metric
 pub mod Plain
 pub mod Laws
 pub mod Costs
-pub mod Bound

@@ -3,7 +3,7 @@ use Rattle.answer_row.specs.Laws.{put_silent, put_dibit}
 use Rattle.answer_row.proofs.put.Goals as goal
 
 pub returns-in_default : goal.returns-in_default
-returns-in_default c = put_silent _ _ _ _ c.enum_told-1.given.1
+returns-in_default c = put_silent (record { flags = c.args.flags.now; bytes = c.args.bytes.now }) c.args.at c.args.answer c.args.locked c.in_default.is
 
 pub returns : goal.returns
-returns c = put_dibit _ _ _ _ _ _ _ c.answer-1.given.1
+returns c = put_dibit (record { flags = c.args.flags.now; bytes = c.args.bytes.now }) c.args.at c.args.answer c.args.locked c.in-Dibit.dibit c.in-Dibit.high c.in-Dibit.low c.in-Dibit.is

@@ -8,50 +8,25 @@ use Rattle.decisions.proofs.decide.Goals as goal
 pub loop-i-init : goal.loop-i-init
 loop-i-init c = (omega arith, row_start _ _ _ _)
 
-pub offset_bounds-symbol_real-i : goal.offset_bounds-symbol_real-i
-offset_bounds-symbol_real-i c =
-    let given = c.requires in
-    search (rules, c.loop-i-test, given.count_bound)
-
-pub bounds-symbol_real-i : goal.bounds-symbol_real-i
-bounds-symbol_real-i c =
-    let given = c.requires in
-    search (rules, c.loop-i-test, given.count_bound)
-
-pub offset_bounds-symbol_imaginary-i : goal.offset_bounds-symbol_imaginary-i
-offset_bounds-symbol_imaginary-i c =
-    let given = c.requires in
-    search (rules, c.loop-i-test, given.count_bound)
-
-pub bounds-symbol_imaginary-i : goal.bounds-symbol_imaginary-i
-bounds-symbol_imaginary-i c =
-    let given = c.requires in
-    search (rules, c.loop-i-test, given.count_bound)
-
-pub bounds-reliable-i : goal.bounds-reliable-i
-bounds-reliable-i c =
-    let given = c.requires in
-    search (rules, c.loop-i-test, given.count_bound)
-
 pub link-t-requires : goal.link-t-requires
 link-t-requires c =
     let given = c.requires in
-    record { given_row = next_asks _ _ _ _ _ _ given.given_row c.loop-i.invariant.1; at_bound = omega (arith, c.loop-i-test, given.count_bound) }
+    record { given_row = next_asks _ _ _ _ _ _ given.given_row c.loop-i.invariant.1; at_bound = omega (arith, c.loop-i-test.true, given.count_bound) }
 
 pub overflow_add-i : goal.overflow_add-i
 overflow_add-i c =
     let given = c.requires in
-    record { fits = omega (arith, c.loop-i-test, given.count_bound) }
+    record { fits = omega (arith, c.loop-i-test.true, given.count_bound) }
 
 pub loop-i-smaller : goal.loop-i-smaller
 loop-i-smaller c =
-    omega (arith, c.loop-i-test)
+    omega (arith, c.loop-i-test.true)
 
 pub loop-i-preserved : goal.loop-i-preserved
 loop-i-preserved c =
-    (omega (arith, c.loop-i-test), row_step _ _ _ _ _ _ _ c.link-t.ensures c.loop-i.invariant.1)
+    (omega (arith, c.loop-i-test.true), row_step _ _ _ _ _ _ _ c.link-t.ensures c.loop-i.invariant.1)
 
 pub returns : goal.returns
 returns c =
     let given = c.requires in
-    row_end _ _ _ _ _ _ _ given.given_row c.loop-i.invariant.1 c.loop-i.invariant.0 (omega (arith, c.loop-i-test))
+    row_end _ _ _ _ _ _ _ given.given_row c.loop-i.invariant.1 c.loop-i.invariant.0 (omega (arith, c.loop-i-test.false))

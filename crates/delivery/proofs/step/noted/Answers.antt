@@ -5,10 +5,10 @@ use Rattle.delivery.specs.Laws.{noted_silent, noted_dibit}
 use Rattle.delivery.proofs.step.noted.Goals as goal
 
 pub returns-in_default : goal.returns-in_default
-returns-in_default c = noted_silent _ _ c.enum_told-1.given.1
+returns-in_default c = noted_silent _ _ c.in_default.is
 
 pub bounds-reliabilities-written-2 : goal.bounds-reliabilities-written-2
 bounds-reliabilities-written-2 c = simp length-set (omega (arith, c.requires.reliabilities))
 
 pub returns : goal.returns
-returns c = noted_dibit _ _ _ _ _ c.answer-1.given.1
+returns c = noted_dibit _ _ _ _ _ c.in-Dibit.is

@@ -11,49 +11,27 @@ loop-i-init c =
     let given = c.requires in
     (omega arith, given.given_link.state.detector.memory.inverse_size, given.odd_len, row_start _ _ _ _)
 
-pub offset_bounds-symbol_real-i : goal.offset_bounds-symbol_real-i
-offset_bounds-symbol_real-i c =
-    let at_loop_test = c in
-    search (rules, at_loop_test.loop-test, at_loop_test.before.before.requires.1.1)
-
-pub bounds-symbol_real-i : goal.bounds-symbol_real-i
-bounds-symbol_real-i c =
-    let at_loop_test = c in
-    search (rules, at_loop_test.loop-test, at_loop_test.before.before.requires.1.1)
-
-pub offset_bounds-symbol_imaginary-i : goal.offset_bounds-symbol_imaginary-i
-offset_bounds-symbol_imaginary-i c =
-    search (rules, c.loop-i-test, c.requires.count_bound)
-
-pub bounds-symbol_imaginary-i : goal.bounds-symbol_imaginary-i
-bounds-symbol_imaginary-i c =
-    search (rules, c.loop-i-test, c.requires.count_bound)
-
-pub bounds-reliable-i : goal.bounds-reliable-i
-bounds-reliable-i c =
-    search (rules, c.loop-i-test, c.requires.count_bound)
-
 pub turned-t-requires : goal.turned-t-requires
 turned-t-requires c =
     let given = c.requires in
     let held = c.loop-i.invariant in
-    record { given_link = next_held _ _ _ _ _ _ _ (first_asks _ _ given.given_link) held.3 held.1; odd_len = held.2; at_bound = omega (arith, c.loop-i-test, given.count_bound) }
+    record { given_link = next_held _ _ _ _ _ _ _ (first_asks _ _ given.given_link) held.3 held.1; odd_len = held.2; at_bound = omega (arith, c.loop-i-test.true, given.count_bound) }
 
 pub overflow_add-i : goal.overflow_add-i
 overflow_add-i c =
-    record { fits = omega (arith, c.loop-i-test, c.requires.count_bound) }
+    record { fits = omega (arith, c.loop-i-test.true, c.requires.count_bound) }
 
 pub loop-i-smaller : goal.loop-i-smaller
 loop-i-smaller c =
-    omega (arith, c.loop-i-test)
+    omega (arith, c.loop-i-test.true)
 
 pub loop-i-preserved : goal.loop-i-preserved
 loop-i-preserved c =
     let after = c.turned-t.ensures in
-    (omega (arith, c.loop-i-test), after.whole.0, after.whole.1, row_step _ _ _ _ _ _ _ after.leaves_turns c.loop-i.invariant.3)
+    (omega (arith, c.loop-i-test.true), after.whole.0, after.whole.1, row_step _ _ _ _ _ _ _ after.leaves_turns c.loop-i.invariant.3)
 
 pub returns : goal.returns
 returns c =
     let given = c.requires in
     let held = c.loop-i.invariant in
-    record { leaves_turns = held_end _ _ _ _ _ _ _ _ _ (first_asks _ _ given.given_link) held.3 refl held.0 (omega (arith, c.loop-i-test)); whole = (held.1, held.2) }
+    record { leaves_turns = held_end _ _ _ _ _ _ _ _ _ (first_asks _ _ given.given_link) held.3 refl held.0 (omega (arith, c.loop-i-test.false)); whole = (held.1, held.2) }

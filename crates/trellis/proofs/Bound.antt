@@ -25,7 +25,8 @@ use Rattle.trellis.specs.declared.best.Least.{Least}
 use Rattle.arrivals.specs.Arrivals.{metric_of, better, no_branch, branch_of, chosen_of, arrival_of}
 use Rattle.trellis.specs.Trellis.{arrived_of, precedes, best_turn, best_of, advanced_of}
 use Rattle.trellis.specs.Metric.{c0, nought, metric_in}
-use Rattle.trellis.specs.Costs.{c48, c64, cand, cheaper, kept, next, Good, fresh_good, keeps, good_next, good_same}
+use Rattle.trellis.specs.Costs.{c48, c64, cand, cheaper, kept, next, Good}
+use Rattle.trellis.proofs.CostsLaws.{fresh_good, keeps, good_next, good_same}
 
 -- ---- the best state is a cheapest one
 precedes_le : (x y : Float) → T (precedes x y) → T (le x y)

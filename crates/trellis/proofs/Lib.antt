@@ -1,0 +1,2 @@
+pub mod CostsLaws
+pub mod Bound
