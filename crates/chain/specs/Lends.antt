@@ -1,6 +1,6 @@
 -- What the chain is lent, by the names of its parameters: each is a type that computes to the clause written out. Definitions only.
 use Rattle.std.specs.Prelude.{ℕ, Bool, Float}
-use Rattle.laws.specs.Lent.{Now, Lends}
+use Rattle.laws.specs.Lent.{NowMut, LendsMut}
 use Rattle.answer_row.specs.AnswerRow.{AnswerRow}
 use Rattle.decisions.specs.Decisions as Decisions
 use Rattle.second.specs.Second.{second_of}
@@ -14,14 +14,14 @@ use Rattle.chain.specs.Rows.{Lent}
 use Rattle.chain.specs.Later.{Later}
 
 -- ---- delivery with both rooms: the stage with the first's, and the second's, as they are given and as they are left
-module _ (t : Delivered) (dibits reliabilities others other_reliabilities : Now ℕ) where
+module _ (t : Delivered) (dibits reliabilities others other_reliabilities : NowMut ℕ) where
   abbrev pub GivenRooms : (Delivery.Lent → Room → Type 0) → Type 0
   GivenRooms P =
       P
       (record { place = t.place; room = record { dibits = dibits.now; reliabilities = reliabilities.now; written = t.written } })
       (record { dibits = others.now; reliabilities = other_reliabilities.now; written = t.written })
 
-module _ (t r : Delivered) (dibits reliabilities others other_reliabilities : Lends ℕ) where
+module _ (t r : Delivered) (dibits reliabilities others other_reliabilities : LendsMut ℕ) where
   abbrev pub LeavesRooms : (Delivery.Lent → Room → Delivery.Lent → Room → Type 0) → Type 0
   LeavesRooms Q =
       Q
@@ -31,8 +31,8 @@ module _ (t r : Delivered) (dibits reliabilities others other_reliabilities : Le
       (record { dibits = others.exit.now; reliabilities = other_reliabilities.exit.now; written = r.written })
 
 -- ---- the later stages, as they are given and as they are left
-module _ (t : LaterPlace) (channel_real channel_imaginary costs : Now Float) (parents : Now ℕ) (view_real view_imaginary : Now Float) (memory : Now Float) (ancestors : Now ℕ)
-    (dibits reliabilities others other_reliabilities : Now ℕ) where
+module _ (t : LaterPlace) (channel_real channel_imaginary costs : NowMut Float) (parents : NowMut ℕ) (view_real view_imaginary : NowMut Float) (memory : NowMut Float) (ancestors : NowMut ℕ)
+    (dibits reliabilities others other_reliabilities : NowMut ℕ) where
   abbrev pub GivenLater : (Later → Type 0) → Type 0
   GivenLater P =
       P
@@ -48,8 +48,8 @@ module _ (t : LaterPlace) (channel_real channel_imaginary costs : Now Float) (pa
         other = record { dibits = others.now; reliabilities = other_reliabilities.now; written = t.delivered.written };
       })
 
-module _ (t r : LaterPlace) (channel_real channel_imaginary costs : Lends Float) (parents : Lends ℕ) (view_real view_imaginary : Lends Float) (memory : Lends Float) (ancestors : Lends ℕ)
-    (dibits reliabilities others other_reliabilities : Lends ℕ) where
+module _ (t r : LaterPlace) (channel_real channel_imaginary costs : LendsMut Float) (parents : LendsMut ℕ) (view_real view_imaginary : LendsMut Float) (memory : LendsMut Float) (ancestors : LendsMut ℕ)
+    (dibits reliabilities others other_reliabilities : LendsMut ℕ) where
   abbrev pub LeavesLater : (Later → Later → Type 0) → Type 0
   LeavesLater Q =
       Q
@@ -77,9 +77,9 @@ module _ (t r : LaterPlace) (channel_real channel_imaginary costs : Lends Float)
       })
 
 -- ---- the chain with its soft records and its rooms, as it is given
-module _ (t : Chained) (keeper_real keeper_imaginary clock_real clock_imaginary weight_real weight_imaginary : Now Float)
-    (channel_real channel_imaginary costs : Now Float) (parents : Now ℕ) (view_real view_imaginary : Now Float) (memory : Now Float) (ancestors : Now ℕ)
-    (dibits reliabilities others other_reliabilities : Now ℕ) where
+module _ (t : Chained) (keeper_real keeper_imaginary clock_real clock_imaginary weight_real weight_imaginary : NowMut Float)
+    (channel_real channel_imaginary costs : NowMut Float) (parents : NowMut ℕ) (view_real view_imaginary : NowMut Float) (memory : NowMut Float) (ancestors : NowMut ℕ)
+    (dibits reliabilities others other_reliabilities : NowMut ℕ) where
   abbrev pub Given : (Lent → Type 0) → Type 0
   Given P =
       P
@@ -99,9 +99,9 @@ module _ (t : Chained) (keeper_real keeper_imaginary clock_real clock_imaginary 
       })
 
 -- and as it is left
-module _ (t r : Chained) (keeper_real keeper_imaginary clock_real clock_imaginary weight_real weight_imaginary : Lends Float)
-    (channel_real channel_imaginary costs : Lends Float) (parents : Lends ℕ) (view_real view_imaginary : Lends Float) (memory : Lends Float) (ancestors : Lends ℕ)
-    (dibits reliabilities others other_reliabilities : Lends ℕ) where
+module _ (t r : Chained) (keeper_real keeper_imaginary clock_real clock_imaginary weight_real weight_imaginary : LendsMut Float)
+    (channel_real channel_imaginary costs : LendsMut Float) (parents : LendsMut ℕ) (view_real view_imaginary : LendsMut Float) (memory : LendsMut Float) (ancestors : LendsMut ℕ)
+    (dibits reliabilities others other_reliabilities : LendsMut ℕ) where
   abbrev pub Leaves : (Lent → Lent → Type 0) → Type 0
   Leaves Q =
       Q

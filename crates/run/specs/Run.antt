@@ -2,7 +2,7 @@
 use Rattle.std.specs.Prelude.{ℕ, ◌+◌, ◌*◌, ◌/◌, ◌^◌, ◌≤◌, ◌≡◌, Bool, List, [], length, Float}
 use Rattle.front.specs.Front as front
 use Rattle.front.specs.Admitted as fit
-use Rattle.laws.specs.Lent.{Now, Lends}
+use Rattle.laws.specs.Lent.{NowMut, LendsMut}
 use Rattle.second.specs.Second.{second_of}
 use Rattle.chain.specs.Chain.{state_of}
 use Rattle.chain.specs.Rows.{Lent, chain_of}
@@ -29,9 +29,9 @@ whole_now t rr ri kr ki tr ti wr wi hr hi costs parents vr vi memory ancestors d
 }
 
 -- the same by the names of the run's parameters, as it is given and as it is left: each is a type that computes to the clause written out
-module _ (t : Running) (ring_real ring_imaginary : Now Float) (keeper_real keeper_imaginary clock_real clock_imaginary weight_real weight_imaginary : Now Float)
-    (channel_real channel_imaginary costs : Now Float) (parents : Now ℕ) (view_real view_imaginary memory : Now Float) (ancestors : Now ℕ)
-    (dibits reliabilities others other_reliabilities : Now ℕ) where
+module _ (t : Running) (ring_real ring_imaginary : NowMut Float) (keeper_real keeper_imaginary clock_real clock_imaginary weight_real weight_imaginary : NowMut Float)
+    (channel_real channel_imaginary costs : NowMut Float) (parents : NowMut ℕ) (view_real view_imaginary memory : NowMut Float) (ancestors : NowMut ℕ)
+    (dibits reliabilities others other_reliabilities : NowMut ℕ) where
   abbrev pub Given : (Whole → Type 0) → Type 0
   Given P =
       P
@@ -47,9 +47,9 @@ module _ (t : Running) (ring_real ring_imaginary : Now Float) (keeper_real keepe
       dibits.now reliabilities.now
       others.now other_reliabilities.now)
 
-module _ (t r : Running) (ring_real ring_imaginary : Lends Float) (keeper_real keeper_imaginary clock_real clock_imaginary weight_real weight_imaginary : Lends Float)
-    (channel_real channel_imaginary costs : Lends Float) (parents : Lends ℕ) (view_real view_imaginary memory : Lends Float) (ancestors : Lends ℕ)
-    (dibits reliabilities others other_reliabilities : Lends ℕ) where
+module _ (t r : Running) (ring_real ring_imaginary : LendsMut Float) (keeper_real keeper_imaginary clock_real clock_imaginary weight_real weight_imaginary : LendsMut Float)
+    (channel_real channel_imaginary costs : LendsMut Float) (parents : LendsMut ℕ) (view_real view_imaginary memory : LendsMut Float) (ancestors : LendsMut ℕ)
+    (dibits reliabilities others other_reliabilities : LendsMut ℕ) where
   abbrev pub Leaves : (Whole → Whole → Type 0) → Type 0
   Leaves Q =
       Q

@@ -4,28 +4,28 @@ use Rattle.program.proofs.step.stepped.Goals as goal
 
 pub blocked-requires : goal.blocked-requires
 blocked-requires c =
-    (c.requires.in_bounds, samples_asks _ _ _ c.stage-1.given.1 c.requires.stage_nonzero c.requires.stage_bound)
+    (c.requires.in_bounds, samples_asks _ _ _ c.in-Samples.is c.requires.stage_nonzero c.requires.stage_bound)
 
 pub returns-in-Head : goal.returns-in-Head
 returns-in-Head c =
-    from_head _ _ _ _ _ _ c.headed.result _ c.enum_told-1.given.1 c.headed.ensures
+    from_head _ _ _ _ _ _ c.headed.result _ c.in-Head.is c.headed.ensures
 
 pub returns-in-Settings : goal.returns-in-Settings
 returns-in-Settings c =
-    from_settings _ _ _ _ _ _ c.set.result _ _ c.enum_told-in-Settings-1.given.1 c.set.ensures
+    from_settings _ _ _ _ _ _ c.set.result _ _ c.in-Settings.is c.set.ensures
 
 pub returns-in-Count : goal.returns-in-Count
 returns-in-Count c =
-    from_count _ _ _ _ _ _ c.counted.result _ c.enum_told-in-Count-1.given.1 c.counted.ensures
+    from_count _ _ _ _ _ _ c.counted.result _ c.in-Count.is c.counted.ensures
 
 pub returns-in-Samples : goal.returns-in-Samples
 returns-in-Samples c =
-    from_samples _ _ _ _ _ _ c.blocked.result _ _ c.stage-1.given.1 c.blocked.ensures
+    from_samples _ _ _ _ _ _ c.blocked.result _ _ c.in-Samples.is c.blocked.ensures
 
 pub returns-in-End : goal.returns-in-End
 returns-in-End c =
-    from_end _ _ _ _ _ _ c.ended.result _ c.enum_told-in-End-1.given.1 c.ended.ensures
+    from_end _ _ _ _ _ _ c.ended.result _ c.in-End.is c.ended.ensures
 
 pub returns-in-Done : goal.returns-in-Done
 returns-in-Done c =
-    done_waits _ c.enum_told-in-Done-1.given.1 c.requires.stage_nonzero
+    done_waits _ c.in-Done.is c.requires.stage_nonzero

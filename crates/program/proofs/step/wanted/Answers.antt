@@ -3,4 +3,4 @@ use Rattle.program.specs.StepLaws.{wanted_samples}
 use Rattle.program.proofs.step.wanted.Goals as goal
 
 pub returns-in-Samples : goal.returns-in-Samples
-returns-in-Samples c = wanted_samples _ _ _ c.stage-1.given.1 c.next_of.ensures
+returns-in-Samples c = wanted_samples _ _ _ c.in-Samples.is c.next_of.ensures
