@@ -3,7 +3,7 @@ use Rattle.std.specs.Prelude.{◌≡◌, true, ℕ, List, ℤ, length, Float}
 use Rattle.std.proofs.Common.{arith}
 use Rattle.complex.specs.declared.Complex32.{Complex32}
 use Rattle.peak.specs.Peak as Peak
-use Rattle.clock.specs.Laws.{fresh_admitted}
+use Rattle.clock.proofs.Laws.{fresh_admitted}
 use Rattle.equalizer.specs.Equalizer as Equalizer
 use Rattle.complex.specs.Planes.{Planes}
 use Rattle.answers.specs.declared.soft.Soft.{Soft}

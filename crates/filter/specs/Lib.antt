@@ -1,4 +1,3 @@
 pub mod Filter
 pub mod Fast
 pub mod Lends
-pub mod Laws

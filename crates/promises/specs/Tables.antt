@@ -16,7 +16,7 @@ use Rattle.resampler.specs.Dimensions.{sized_of}
 use Rattle.resampler.specs.Design.{table_of, written_of}
 use Rattle.resampler.specs.Admitted.{AdmittedRate}
 use Rattle.signal.specs.Signal as signal
-use Rattle.signal.specs.Laws.{length_parts}
+use Rattle.signal.proofs.Laws.{length_parts}
 use Rattle.receiver_state.specs.declared.state.Receiver.{Receiver}
 use Rattle.receiver_state.specs.State.{zero_receiver, fresh_front, fresh_receiver}
 use Rattle.checks.specs.Checks.{rate_refused, offset_refused, table_refused}

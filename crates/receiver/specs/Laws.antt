@@ -9,9 +9,9 @@ use Rattle.resampler.specs.Ranges.{sized_in, fresh_admitted as fresh_ready}
 use Rattle.resampler.specs.Dimensions as resampler
 use Rattle.resampler.specs.Dimensions.{sized_of}
 use Rattle.decimator.specs.Decimator as decimator
-use Rattle.peak.specs.Laws as PeakLaws
-use Rattle.clock.specs.Laws.{fresh_admitted}
-use Rattle.signal.specs.Laws as SignalLaws
+use Rattle.peak.proofs.Laws as PeakLaws
+use Rattle.clock.proofs.Laws.{fresh_admitted}
+use Rattle.signal.proofs.Laws as SignalLaws
 use Rattle.receiver_state.specs.State.{zero_receiver, zero_front, zero_chain, zero_second, fresh_front, fresh_receiver}
 use Rattle.checks.specs.Admitted.{state_fits, totals_fit}
 use Rattle.checks.specs.Fits.{fits_to}

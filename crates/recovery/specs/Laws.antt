@@ -14,15 +14,15 @@ use Rattle.peak.specs.declared.KeeperPlace.{KeeperPlace}
 use Rattle.peak.specs.declared.Level.{Level}
 use Rattle.peak.specs.declared.Level.TheVariants.{Filling, At}
 use Rattle.peak.specs.Peak as Peak
-use Rattle.peak.specs.Laws as PeakLaws
+use Rattle.peak.proofs.Laws as PeakLaws
 use Rattle.filter.specs.Filter.{Windows}
 use Rattle.clock.specs.declared.ClockPlace.{ClockPlace}
 use Rattle.clock.specs.declared.Due.{Due}
 use Rattle.clock.specs.declared.Due.TheVariants.{NoSymbol, Symbol}
 use Rattle.clock.specs.Clock as Clock
 use Rattle.clock.specs.Ranges.{ErrorFits, After}
-use Rattle.clock.specs.Laws.{after_of, stepped_place, update_kept}
-use Rattle.clock.specs.AdmittedLaws as ClockLaws
+use Rattle.clock.proofs.Laws.{after_of, stepped_place, update_kept}
+use Rattle.clock.proofs.AdmittedLaws as ClockLaws
 use Rattle.taps.specs.declared.Tables.{Tables}
 use Rattle.taps.specs.Taps.{both_tables}
 use Rattle.equalizer.specs.Equalizer as Equalizer

@@ -1,13 +1,3 @@
 pub mod Circle
-pub mod Reached
-pub mod CircleLaws
-pub mod CircleCode
 pub mod Angle
-pub mod AngleLaws
-pub mod AngleRange
-pub mod AngleCode
 pub mod Hypotenuse
-pub mod Squares
-pub mod HypotenuseLaws
-pub mod Enclosed
-pub mod HypotenuseCode

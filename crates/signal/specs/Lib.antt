@@ -3,10 +3,4 @@ pub mod Plain
 pub mod Powers
 pub mod Rows
 pub mod Lends
-pub mod Loops
-pub mod Quotients
-pub mod Spans
-pub mod Bounds
-pub mod Windows
-pub mod RowLaws
-pub mod Laws
+pub mod InPlace

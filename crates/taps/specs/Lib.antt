@@ -1,3 +1,2 @@
 pub mod TapBits
 pub mod Taps
-pub mod Laws

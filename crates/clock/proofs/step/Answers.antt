@@ -1,5 +1,5 @@
 -- `clock::step` meets its contract: without a symbol the windows stay; with one they are what `matched` leaves.
-use Rattle.clock.specs.Laws.{step_waiting, step_symbol, after_symbol}
+use Rattle.clock.proofs.Laws.{step_waiting, step_symbol, after_symbol}
 use Rattle.clock.proofs.step.Goals as goal
 
 pub returns-in_default : goal.returns-in_default

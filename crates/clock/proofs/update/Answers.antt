@@ -2,7 +2,7 @@
 use Rattle.std.proofs.Common.{rules}
 use lib.Ieee.{of_bits, neg}
 use Rattle.laws.specs.Turns.{turns_start, turns_step}
-use Rattle.clock.specs.Laws.{update_is}
+use Rattle.clock.proofs.Laws.{update_is}
 use Rattle.clock.proofs.update.Goals as goal
 
 pub loop-k-init : goal.loop-k-init

@@ -1,5 +1,5 @@
 -- `filter::group` meets its contract: the two ways, by whether it is the last group, are the definition's.
-use Rattle.filter.specs.Laws.{group_low, group_high}
+use Rattle.filter.proofs.Laws.{group_low, group_high}
 use borrow.Author.Rules.{rules}
 use Rattle.filter.proofs.group.Goals as goal
 

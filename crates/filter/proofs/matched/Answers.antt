@@ -1,5 +1,5 @@
 -- `filter::matched` meets its contract: the windows of the samples laid out apart are those of the ring, with the arm's taps.
-use Rattle.filter.specs.Laws.{matched_is}
+use Rattle.filter.proofs.Laws.{matched_is}
 use Rattle.filter.proofs.matched.Goals as goal
 
 pub windows-requires : goal.windows-requires

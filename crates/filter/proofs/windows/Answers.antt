@@ -1,5 +1,5 @@
 -- `filter::windows` meets its contract: the invariant is that the planes hold the windows that are made before group g.
-use Rattle.filter.specs.Laws.{made_start, made_group, made_end}
+use Rattle.filter.proofs.Laws.{made_start, made_group, made_end}
 use borrow.Author.Rules.{rules}
 use Rattle.filter.proofs.windows.Goals as goal
 

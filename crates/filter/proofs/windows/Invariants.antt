@@ -1,7 +1,7 @@
 -- `filter::windows` meets its contract: the invariant is that the planes hold the windows that are made before group g.
 use Prim.Native.Nat.{◌≤◌, ◌-◌}
 use Rattle.filter.specs.Fast.{woven}
-use Rattle.filter.specs.Laws.{Made}
+use Rattle.filter.proofs.Laws.{Made}
 use Rattle.filter.proofs.windows.Given as goal
 
 abbrev pub invariant-loop-g : goal.invariant-loop-g

@@ -1,5 +1,5 @@
 -- `peak::highest` meets its contract: the peak of the quarters of the columns is the peak by columns.
-use Rattle.peak.specs.ColumnLaws.{highest_of_lem}
+use Rattle.peak.proofs.ColumnLaws.{highest_of_lem}
 use Rattle.peak.proofs.highest.Goals as goal
 
 pub returns : goal.returns

@@ -1,7 +1,7 @@
 -- `peak::keep` meets its contract: the two ways, by whether 64 values are in, are the definition's; either way the new value renews its own envelope and no other.
 use mathlib.Core.Path.{refl, ap, ◌∙◌}
 use Rattle.peak.specs.Columns.{highest_of}
-use Rattle.peak.specs.Laws.{keep_filling, keep_level, renews, highest_is}
+use Rattle.peak.proofs.Laws.{keep_filling, keep_level, renews, highest_is}
 use Rattle.peak.proofs.keep.Goals as goal
 
 pub returns-then-place-lt63 : goal.returns-then-place-lt63

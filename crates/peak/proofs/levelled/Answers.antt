@@ -1,5 +1,5 @@
 -- `peak::levelled` meets its contract: it is what the five calls answer, in the definition's record.
-use Rattle.peak.specs.Laws.{levelled_is}
+use Rattle.peak.proofs.Laws.{levelled_is}
 use Rattle.peak.proofs.levelled.Goals as goal
 
 pub returns : goal.returns

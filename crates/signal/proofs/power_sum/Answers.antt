@@ -1,5 +1,5 @@
 -- `signal::power_sum` meets its contract: the points up to the ring's end and those from its beginning are the points round the ring.
-use Rattle.signal.specs.Windows.{power_runs}
+use Rattle.signal.proofs.Windows.{power_runs}
 use Rattle.signal.proofs.power_sum.Goals as goal
 
 pub returns : goal.returns

@@ -1,6 +1,6 @@
 -- `signal::read` meets its contract: the two ways out, by whether the points can be shown, are the definition's; a NaN for a sum, taken for infinity, shows as little.
 use Rattle.std.proofs.Common.{sym, ◌∙◌, rules}
-use Rattle.signal.specs.Loops.{read_found, read_nothing}
+use Rattle.signal.proofs.Loops.{read_found, read_nothing}
 use Rattle.signal.proofs.read.Goals as goal
 
 pub write-sum-requires : goal.write-sum-requires

@@ -1,6 +1,6 @@
 -- `signal::write` meets its contract: either way gives the same; the quick one is taken where parts and amplitude are plain.
 use Rattle.std.proofs.Common.{sym, ◌∙◌, rules}
-use Rattle.signal.specs.Windows.{common_plain, plain_amplitude}
+use Rattle.signal.proofs.Windows.{common_plain, plain_amplitude}
 use Rattle.signal.proofs.write.Goals as goal
 
 pub write_plain-requires : goal.write_plain-requires

@@ -1,5 +1,5 @@
 -- `signal::write_plain` meets its contract: the points up to the ring's end and those from its beginning are the points round the ring.
-use Rattle.signal.specs.Windows.{plain_early, plain_late, written_runs}
+use Rattle.signal.proofs.Windows.{plain_early, plain_late, written_runs}
 use Rattle.std.proofs.Common.{rules}
 use Rattle.signal.proofs.write_plain.Goals as goal
 

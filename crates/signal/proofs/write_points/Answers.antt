@@ -1,7 +1,7 @@
 -- `signal::write_points` meets its contract: the invariants are the sum and the floats after i points.
 use Rattle.std.proofs.Common.{refl, arith, length-set, rules}
 use Rattle.laws.specs.Turns.{turns_start, turns_step, turns_end}
-use Rattle.signal.specs.Loops.{written_from}
+use Rattle.signal.proofs.Loops.{written_from}
 use Rattle.signal.proofs.write_points.Goals as goal
 
 pub loop-i-init : goal.loop-i-init

@@ -3,7 +3,7 @@ use Rattle.std.proofs.Common.{◌≡◌, ◌-◌, ◌≤◌, length}
 use lib.Ieee.{binary64, of_bits}
 use Rattle.laws.specs.Turns.{turns}
 use Rattle.signal.specs.Signal.{error_at}
-use Rattle.signal.specs.Loops.{sum_turn, write_turn}
+use Rattle.signal.proofs.Loops.{sum_turn, write_turn}
 use Rattle.signal.proofs.write_points.Given as goal
 
 abbrev pub invariant-loop-i : goal.invariant-loop-i

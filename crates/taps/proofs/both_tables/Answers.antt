@@ -3,7 +3,7 @@ use mathlib.Core.Path.{refl}
 use lib.Ieee.{sub, mul, of_bits}
 use Rattle.taps.specs.TapBits.{tap_bits, factor_bits}
 use Rattle.taps.specs.Taps.{tap_table, differences_of, derivatives_of}
-use Rattle.taps.specs.Laws.{reversed, both_with}
+use Rattle.taps.proofs.Laws.{reversed, both_with}
 use Rattle.taps.proofs.both_tables.Goals as goal
 
 pub returns : goal.returns

@@ -1,7 +1,7 @@
 -- `clock::phase::ceiling` meets its contract: it is the truncated number, or one more where that lies below x.
 use Rattle.std.proofs.Common.{arith}
-use Rattle.clock.specs.Floor.{whole_most, ceiling_up, ceiling_not}
-use Rattle.clock.specs.Ranged.{truncates, within48}
+use Rattle.clock.proofs.Floor.{whole_most, ceiling_up, ceiling_not}
+use Rattle.clock.proofs.Ranged.{truncates, within48}
 use Rattle.clock.proofs.phase.ceiling.Goals as goal
 
 pub truncating_f32_to_u64-whole-requires : goal.truncating_f32_to_u64-whole-requires

@@ -1,5 +1,5 @@
 -- `clock::phase::ranged` meets its contract: below 0, in 0..32, from 32 on and NaN, the closed form is what the definition's loops make.
-use Rattle.clock.specs.Ranged.{truncates, middle_in, same_middle, high_in, high_is, same_high, same_nan, held}
+use Rattle.clock.proofs.Ranged.{truncates, middle_in, same_middle, high_in, high_is, same_high, same_nan, held}
 use Rattle.clock.proofs.phase.ranged.Goals as goal
 
 pub returns-then-phase : goal.returns-then-phase

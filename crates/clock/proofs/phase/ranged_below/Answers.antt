@@ -1,5 +1,5 @@
 -- `clock::phase::ranged_below` meets its contract: from below 0 the loops raise the phase once.
-use Rattle.clock.specs.Ranged.{neg_in, same_low, held}
+use Rattle.clock.proofs.Ranged.{neg_in, same_low, held}
 use Rattle.clock.proofs.phase.ranged_below.Goals as goal
 
 pub ceiling-above-requires : goal.ceiling-above-requires

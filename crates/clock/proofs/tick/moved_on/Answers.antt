@@ -1,5 +1,5 @@
 -- `clock::tick::moved_on` meets its contract: dropping at once what lies before position 12 is the definition's loop.
-use Rattle.clock.specs.Laws.{dropped_is}
+use Rattle.clock.proofs.Laws.{dropped_is}
 use Rattle.std.proofs.Common.{rules}
 use Rattle.clock.proofs.tick.moved_on.Goals as goal
 

@@ -1,6 +1,6 @@
 -- `clock::tick::ticked` meets its contract: the ring has room, since its count is below 256; the sample goes to its end.
 use Rattle.std.proofs.Common.{refl, arith}
-use Rattle.clock.specs.Laws.{assertion_holds, taken_hot, taken_first, ticked_is, after_of}
+use Rattle.clock.proofs.Laws.{assertion_holds, taken_hot, taken_first, ticked_is, after_of}
 use Rattle.clock.proofs.tick.ticked.Goals as goal
 
 pub overflow_add-at : goal.overflow_add-at

@@ -1,6 +1,6 @@
 -- `clock::tick::timed` meets its contract: the three ways (warm, cold and waiting, cold with 83 samples in) are the definition's.
 use Rattle.std.proofs.Common.{◌∙◌}
-use Rattle.clock.specs.Laws.{timed_hot, timed_cold, timed_first}
+use Rattle.clock.proofs.Laws.{timed_hot, timed_cold, timed_first}
 use Rattle.clock.proofs.tick.timed.Goals as goal
 
 pub timed_warm-requires : goal.timed_warm-requires

@@ -1,7 +1,7 @@
 -- `clock::tick::timed_warm` meets its contract: the two ways, by whether the windows are in, are the definition's, with the phase that `ranged` gives.
 use Rattle.std.proofs.Common.{refl, rules}
-use Rattle.clock.specs.Ranged.{same_held}
-use Rattle.clock.specs.Laws.{warm_not, warm_due}
+use Rattle.clock.proofs.Ranged.{same_held}
+use Rattle.clock.proofs.Laws.{warm_not, warm_due}
 use Rattle.clock.proofs.tick.timed_warm.Goals as goal
 
 pub returns-then-c-first : goal.returns-then-c-first

@@ -2,7 +2,7 @@
 use lib.Ieee.{nan}
 use Rattle.laws.specs.Places.{fill_end}
 use Rattle.filter.specs.Filter.{arm_taps_of}
-use Rattle.filter.specs.Laws.{arm_start, arm_next}
+use Rattle.filter.proofs.Laws.{arm_start, arm_next}
 use borrow.Author.Rules.{rules}
 use Rattle.filter.proofs.gather.arm_taps.Goals as goal
 

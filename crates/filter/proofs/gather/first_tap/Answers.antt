@@ -1,5 +1,5 @@
 -- `filter::gather::first_tap` meets its contract: only arm 0 reaches the table's last place.
-use Rattle.filter.specs.Laws.{tap_first, tap_past}
+use Rattle.filter.proofs.Laws.{tap_first, tap_past}
 use borrow.Author.Rules.{rules}
 use Rattle.filter.proofs.gather.first_tap.Goals as goal
 

@@ -1,6 +1,6 @@
 -- `filter::sums::four_sums` meets its contract: the invariant is the sums over the first 2 j taps.
 use mathlib.Core.Path.{◌∙◌}
-use Rattle.filter.specs.Laws.{four_start, four_even, four_odd, four_last}
+use Rattle.filter.proofs.Laws.{four_start, four_even, four_odd, four_last}
 use borrow.Author.Rules.{rules}
 use Rattle.filter.proofs.sums.four_sums.Goals as goal
 

@@ -1,5 +1,5 @@
 -- `filter::sums::tapped_four` meets its contract: it is what the four calls answer, in the definition's record.
-use Rattle.filter.specs.Laws.{four_of_lem}
+use Rattle.filter.proofs.Laws.{four_of_lem}
 use Rattle.filter.proofs.sums.tapped_four.Goals as goal
 
 pub returns : goal.returns

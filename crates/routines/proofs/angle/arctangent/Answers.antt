@@ -1,5 +1,5 @@
 -- `angle::arctangent` meets its contract: a NaN comes through, and every other point is turned into the first quadrant, mirrored, narrowed and given its sign.
-use Rattle.routines.specs.AngleCode.{first_nan, second_nan, made_below, made_above}
+use Rattle.routines.proofs.AngleCode.{first_nan, second_nan, made_below, made_above}
 use Rattle.routines.proofs.angle.arctangent.Goals as goal
 
 pub returns-then-v : goal.returns-then-v

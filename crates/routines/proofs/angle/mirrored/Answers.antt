@@ -1,5 +1,5 @@
 -- `angle::mirrored` meets its contract: the angle from pi back where it lies to the left.
-use Rattle.routines.specs.AngleCode.{mirrored_left, mirrored_right}
+use Rattle.routines.proofs.AngleCode.{mirrored_left, mirrored_right}
 use Rattle.routines.proofs.angle.mirrored.Goals as goal
 
 pub returns-then-left : goal.returns-then-left

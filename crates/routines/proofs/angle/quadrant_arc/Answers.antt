@@ -1,5 +1,5 @@
 -- `angle::quadrant_arc` meets its contract: each way out is one case of `quadrant_arc`.
-use Rattle.routines.specs.AngleLaws.{quadrant_1, quadrant_2, quadrant_3, quadrant_4}
+use Rattle.routines.proofs.AngleLaws.{quadrant_1, quadrant_2, quadrant_3, quadrant_4}
 use Rattle.std.proofs.Common.{sym, ◌∙◌}
 use Rattle.routines.proofs.angle.quadrant_arc.Goals as goal
 

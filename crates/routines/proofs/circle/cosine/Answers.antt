@@ -1,5 +1,5 @@
 -- `circle::cosine` meets its contract: the cosine of the angle's size.
-use Rattle.routines.specs.CircleLaws.{abs_plain}
+use Rattle.routines.proofs.CircleLaws.{abs_plain}
 use Rattle.routines.specs.Circle.{size_cosine, cosine_of}
 use Rattle.numbers.specs.Numbers.{sign_of}
 use Rattle.std.proofs.Common.{ap, ◌∙◌}

@@ -1,5 +1,5 @@
 -- `circle::reduced` meets its contract: the quarter turns are taken off in three parts.
-use Rattle.routines.specs.CircleCode.{reduced_made}
+use Rattle.routines.proofs.CircleCode.{reduced_made}
 use Rattle.routines.proofs.circle.reduced.Goals as goal
 
 pub returns : goal.returns

@@ -1,5 +1,5 @@
 -- `circle::sine` meets its contract: the sine of the angle's size, with the angle's sign.
-use Rattle.routines.specs.CircleLaws.{abs_plain}
+use Rattle.routines.proofs.CircleLaws.{abs_plain}
 use Rattle.routines.specs.Circle.{size_sine, with_sign, sine_of}
 use lib.Ieee.{Float}
 use Rattle.numbers.specs.Numbers.{sign_of}

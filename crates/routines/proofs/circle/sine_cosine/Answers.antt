@@ -1,6 +1,6 @@
 -- `circle::sine_cosine` meets its contract: the sine with its sign, and the cosine.
-use Rattle.routines.specs.CircleLaws.{abs_plain}
-use Rattle.routines.specs.CircleCode.{pair_made}
+use Rattle.routines.proofs.CircleLaws.{abs_plain}
+use Rattle.routines.proofs.CircleCode.{pair_made}
 use Rattle.numbers.specs.Numbers.{sign_of}
 use Rattle.std.proofs.Common.{ap, ◌∙◌}
 use Rattle.routines.proofs.circle.sine_cosine.Goals as goal

@@ -1,6 +1,6 @@
 -- `circle::size_pair` meets its contract: within 64 the turned pair brought back to -1..1, and beyond it two NaN.
 use lib.Ieee.{of_bits, neg, div}
-use Rattle.routines.specs.CircleCode.{pair_reached, pair_none}
+use Rattle.routines.proofs.CircleCode.{pair_reached, pair_none}
 use Rattle.routines.proofs.circle.size_pair.Goals as goal
 
 pub returns-then-a : goal.returns-then-a

@@ -1,8 +1,8 @@
 -- `circle::size_sine` meets its contract: within 64 the turned sine brought back to -1..1, and beyond it a NaN.
 use lib.Ieee.{of_bits, neg, div}
 use Rattle.std.proofs.Common.{sym}
-use Rattle.routines.specs.CircleLaws.{size_none}
-use Rattle.routines.specs.CircleCode.{sine_reached}
+use Rattle.routines.proofs.CircleLaws.{size_none}
+use Rattle.routines.proofs.CircleCode.{sine_reached}
 use Rattle.routines.proofs.circle.size_sine.Goals as goal
 
 pub returns-then-a : goal.returns-then-a

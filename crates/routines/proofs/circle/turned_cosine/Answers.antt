@@ -1,7 +1,7 @@
 -- `circle::turned_cosine` meets its contract: one of four, by the quarter turns.
 use lib.Ieee.{neg}
 use Rattle.std.proofs.Common.{ap}
-use Rattle.routines.specs.CircleCode.{quarter_0, quarter_1, quarter_2, quarter_3}
+use Rattle.routines.proofs.CircleCode.{quarter_0, quarter_1, quarter_2, quarter_3}
 use Rattle.routines.specs.Circle.{turned_cosine}
 use Rattle.routines.proofs.circle.turned_cosine.Goals as goal
 

@@ -1,5 +1,5 @@
 -- `circle::turned_pair` meets its contract: one of four pairs, by the quarter turns.
-use Rattle.routines.specs.CircleCode.{pair_0, pair_1, pair_2, pair_3}
+use Rattle.routines.proofs.CircleCode.{pair_0, pair_1, pair_2, pair_3}
 use Rattle.routines.proofs.circle.turned_pair.Goals as goal
 
 pub returns-then-q-eq0 : goal.returns-then-q-eq0

@@ -1,7 +1,7 @@
 -- `circle::turned_sine` meets its contract: one of four, by the quarter turns.
 use lib.Ieee.{neg}
 use Rattle.std.proofs.Common.{ap}
-use Rattle.routines.specs.CircleCode.{quarter_0, quarter_1, quarter_2, quarter_3}
+use Rattle.routines.proofs.CircleCode.{quarter_0, quarter_1, quarter_2, quarter_3}
 use Rattle.routines.specs.Circle.{turned_sine}
 use Rattle.routines.proofs.circle.turned_sine.Goals as goal
 

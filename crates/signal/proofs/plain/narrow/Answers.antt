@@ -1,6 +1,6 @@
 -- `signal::plain::narrow` meets its contract: rounding the pattern in place is narrowing, since the number is zero or a normal f32's size.
 use Rattle.std.proofs.Common.{arith}
-use Rattle.signal.specs.Quotients.{in_place_lem, in_place_number, in_place_exact, in_place_room}
+use Rattle.signal.proofs.Quotients.{in_place_lem, in_place_number, in_place_exact, in_place_room}
 use Rattle.signal.proofs.plain.narrow.Goals as goal
 
 pub float_to_bits-b : goal.float_to_bits-b

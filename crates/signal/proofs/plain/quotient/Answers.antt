@@ -1,7 +1,7 @@
 -- `signal::plain::quotient` meets its contract: a plain part over a plain amplitude is zero or of a normal f32's size.
 use Rattle.std.proofs.Common.{refl}
 use denote.Floats.{passes}
-use Rattle.signal.specs.Quotients.{plain_exact, usual_quotient}
+use Rattle.signal.proofs.Quotients.{plain_exact, usual_quotient}
 use Rattle.signal.proofs.plain.quotient.Goals as goal
 
 pub float_to_float-result : goal.float_to_float-result

@@ -1,5 +1,5 @@
 -- `signal::plain::with_point` meets its contract: a part that is no NaN is widened exactly; the rest is what the calls answer.
-use Rattle.signal.specs.Quotients.{number_exact}
+use Rattle.signal.proofs.Quotients.{number_exact}
 use Rattle.signal.proofs.plain.with_point.Goals as goal
 
 pub float_to_float-u : goal.float_to_float-u

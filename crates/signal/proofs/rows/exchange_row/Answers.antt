@@ -1,7 +1,7 @@
 -- `signal::rows::exchange_row` meets its contract: writing a row and dividing the next into its places is the same as one after the other, since a turn reads its places before it writes them.
 use Rattle.std.proofs.Common.{refl, length-set, rules}
 use Rattle.laws.specs.Turns.{turns_start, turns_step, turns_end}
-use Rattle.signal.specs.RowLaws.{usual_ahead, exchange_turn}
+use Rattle.signal.proofs.RowLaws.{usual_ahead, exchange_turn}
 use Rattle.signal.proofs.rows.exchange_row.Goals as goal
 
 pub loop-j-init : goal.loop-j-init

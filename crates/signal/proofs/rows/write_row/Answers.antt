@@ -1,7 +1,7 @@
 -- `signal::rows::write_row` meets its contract: the invariants are the sum and the floats after j points.
 use Rattle.std.proofs.Common.{refl, rules}
 use Rattle.laws.specs.Turns.{turns_start, turns_end}
-use Rattle.signal.specs.RowLaws.{row_turn}
+use Rattle.signal.proofs.RowLaws.{row_turn}
 use Rattle.signal.proofs.rows.write_row.Goals as goal
 
 pub loop-j-init : goal.loop-j-init

@@ -1,7 +1,7 @@
 -- `signal::rows::write_run` meets its contract: the invariants are the sum and the floats after the whole rows so far, and the next row divided.
 use Rattle.std.proofs.Common.{◌≡◌, ◌+◌, ◌-◌, refl, arith, rules}
 use Rattle.laws.specs.Turns.{turns_start}
-use Rattle.signal.specs.RowLaws.{plain_within, divided, divided_fewer, divided_usual, row_on}
+use Rattle.signal.proofs.RowLaws.{plain_within, divided, divided_fewer, divided_usual, row_on}
 use Rattle.signal.proofs.rows.write_run.Goals as goal
 
 pub divide_row-requires : goal.divide_row-requires

@@ -3,7 +3,7 @@ use Rattle.std.proofs.Common.{◌≡◌, ◌+◌, ◌-◌, ◌≤◌, length}
 use Rattle.laws.specs.Turns.{turns}
 use Rattle.signal.specs.Signal.{error_at}
 use Rattle.signal.specs.Plain.{sum_step, write_step, run_of}
-use Rattle.signal.specs.RowLaws.{Divided}
+use Rattle.signal.proofs.RowLaws.{Divided}
 use Rattle.signal.proofs.rows.write_run.Given as goal
 
 abbrev pub invariant-loop-at : goal.invariant-loop-at

@@ -10,7 +10,7 @@ use Rattle.numbers.specs.Nearest.{Value}
 use Rattle.numbers.proofs.NearestLaws.{same_place}
 use Rattle.peak.specs.Peak.{top_of, peak_of}
 use Rattle.peak.specs.Columns.{four_of, column_of, columns_of, quarter_of, highest_of}
-use Rattle.peak.specs.Sizes.{Unsigned, some, place, top_unsigned, top_place, Largest, largest_one, nought, in_order}
+use Rattle.peak.proofs.Sizes.{Unsigned, some, place, top_unsigned, top_place, Largest, largest_one, nought, in_order}
 
 -- ---- the largest of four
 record Four (n : ℕ → ℕ) (s k m : ℕ) : Type 0 where

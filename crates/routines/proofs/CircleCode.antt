@@ -10,7 +10,7 @@ use Rattle.numbers.specs.Numbers.{abs_of, sign_of, clamp_of}
 use Rattle.routines.specs.declared.circle.SineCosine.{SineCosine}
 use Rattle.routines.specs.declared.circle.Remainder.{Remainder}
 use Rattle.routines.specs.Circle.{one, minus_one, farthest, left_from, left_of, turns_of, reduced_of, near_sine, near_cosine, quartered, turned_sine, turned_cosine, turned_pair, in_reach, size_sine, size_cosine, size_pair, with_sign, sine_of, cosine_of, pair_of}
-use Rattle.routines.specs.CircleLaws.{size_none, size_cosine_none}
+use Rattle.routines.proofs.CircleLaws.{size_none, size_cosine_none}
 
 eqb_yes : (a b : ℕ) → a ≡ b → (a == b) ≡ true
 eqb_yes a b h = is_true (a == b) (eq→eqb h)

@@ -18,9 +18,9 @@ use Rattle.signal.specs.Signal.{power64}
 use Rattle.signal.specs.declared.plain.Power.{Power}
 use Rattle.signal.specs.Plain.{is_plain, round_of}
 use Rattle.signal.specs.Powers.{no_nan_of, span_of, no_power, power_step, least_span, plain_of}
-use Rattle.signal.specs.Loops.{next_point, sum_turn}
-use Rattle.signal.specs.Quotients.{high100, square_is, signed_number}
-use Rattle.signal.specs.Spans.{both_least, plain_where}
+use Rattle.signal.proofs.Loops.{next_point, sum_turn}
+use Rattle.signal.proofs.Quotients.{high100, square_is, signed_number}
+use Rattle.signal.proofs.Spans.{both_least, plain_where}
 
 -- ---- sums of what has no sign
 signed_add : (a b : Float) → T (signed false a) → T (signed false b) → T (signed false (add binary64 a b))

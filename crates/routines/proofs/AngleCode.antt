@@ -9,7 +9,7 @@ use Rattle.laws.specs.Branches.{cond_yes, cond_no, cond_then}
 use Rattle.numbers.specs.Numbers.{abs_of, sign_of, convert}
 use Rattle.numbers.specs.Laws.{ne_self}
 use Rattle.routines.specs.Angle.{pi, quadrant_arc, mirrored_of, arc_size, arctangent_of}
-use Rattle.routines.specs.AngleLaws.{nan_first, nan_second}
+use Rattle.routines.proofs.AngleLaws.{nan_first, nan_second}
 
 pub mirrored_left : (a : Float) (s : Bool) → s ≡ true → sub binary64 pi a ≡ mirrored_of a s
 unfolding mirrored_of

@@ -21,9 +21,9 @@ use Rattle.peak.specs.declared.KeeperPlace.{KeeperPlace}
 use Rattle.peak.specs.declared.Kept.{Kept}
 use Rattle.peak.specs.declared.Level.TheVariants.{Filling, At}
 use Rattle.peak.specs.Peak.{fresh_place, admitted_of, Admitted, Ring, KeeperStep, smaller_share, envelope_of, envelopes_of, peak_of, followed_of, floor_of, gain_of, reliable_of, levelled_of, oldest_of, put_in, kept_of}
-use Rattle.peak.specs.Sizes.{Unsigned, none, some}
+use Rattle.peak.proofs.Sizes.{Unsigned, none, some}
 use Rattle.peak.specs.Columns.{highest_of}
-use Rattle.peak.specs.ColumnLaws.{highest_peak}
+use Rattle.peak.proofs.ColumnLaws.{highest_peak}
 
 -- ---- a NaN, or no sign
 data Free : Float → Type 0 where

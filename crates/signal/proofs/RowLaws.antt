@@ -9,7 +9,7 @@ use Rattle.laws.specs.Places.{turns_length, turns_keep, turns_at, skip2}
 use Rattle.signal.specs.Signal.{error_at}
 use Rattle.signal.specs.Plain.{is_plain, Usual, PlainRun, PlainAmplitude, error_from, sum_step, write_step, run_of}
 use Rattle.signal.specs.Rows.{UsualRow, point_put, quotient_at, divide_turn, error_turn, point_turn}
-use Rattle.signal.specs.Quotients.{usual_quotient}
+use Rattle.signal.proofs.Quotients.{usual_quotient}
 
 -- what lies within a run of plain parts is plain
 pub plain_within : (re im : List Float) (from n p m q : ℕ) → PlainRun re im from n → q ≡ from + p → p + m ≤ n → PlainRun re im q m

@@ -12,7 +12,7 @@ use Rattle.laws.specs.FloatValues.{no_inf, no_nan_fin}
 use Rattle.laws.specs.FloatParts.{digits_of, power_of, finite_field, float_value, digits_ge, digits_none}
 use Rattle.signal.specs.Plain.{is_sized, is_plain}
 use Rattle.signal.specs.Powers.{no_nan_of, span_of, least_span}
-use Rattle.signal.specs.Quotients.{low60, high60, high100, no_digits, within_fin}
+use Rattle.signal.proofs.Quotients.{low60, high60, high100, no_digits, within_fin}
 
 pub both_least : (a b : ℕ) → least_span ≤ min a b → (least_span ≤ a) × (least_span ≤ b)
 both_least a b h = (omega arith, omega arith)

@@ -25,6 +25,7 @@ use Rattle.numbers.specs.Numbers.{abs_of, convert}
 use Rattle.numbers.specs.Laws.{abs_pattern, convert_value}
 use Rattle.numbers.proofs.Narrowing.{Everyday, kept, kept_lt, everyday_is}
 use Rattle.signal.specs.Plain.{is_plain, PlainAmplitude, Usual}
+use Rattle.signal.specs.InPlace.{in_place}
 
 -- ---- sizes from 2 ^ -60 to 2 ^ 60
 
@@ -372,8 +373,6 @@ usual_quotient x a h k = go x a (plain_size x h) (amplitude_size a k)
     go (fin s m e) (fin false n d) h k = usual_fin s m e n d k.ordinary h
 
 -- ---- narrowing in place: the last 29 digits rounded off
-abbrev pub in_place : ℕ → ℕ
-in_place b = (b + 268435455 + b / 536870912 % 2) / 536870912 * 536870912
 
 -- the pattern of a normal f32, and the f64 pattern of the same number
 scaled_value : (x : Float) (s : Bool) (a c k : ℕ) → HasValue x s a c → HasValue x s (a * k) (c * k)

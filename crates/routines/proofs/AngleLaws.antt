@@ -13,7 +13,7 @@ use Rattle.laws.specs.FloatOrder.{nonneg, le→cross, cross→le}
 use Rattle.laws.specs.FloatRounding.{signed, round_zero}
 use Rattle.numbers.specs.Numbers.{abs_of, sign_of, is_finite, convert}
 use Rattle.routines.specs.Circle.{with_sign}
-use Rattle.routines.specs.CircleLaws.{abs_neg, sign_turns}
+use Rattle.routines.proofs.CircleLaws.{abs_neg, sign_turns}
 use Rattle.routines.specs.Angle.{nought, quarter_pi, half_pi, arc_of, quadrant_arc, mirrored_of, arc_size, arctangent_of}
 
 -- ---- a NaN

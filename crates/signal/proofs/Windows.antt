@@ -11,8 +11,8 @@ use Rattle.signal.specs.declared.plain.Power.{Power}
 use Rattle.signal.specs.Signal.{WrittenPoints, points_from, power64, error_at, written_of}
 use Rattle.signal.specs.Plain.{least_amplitude, most_amplitude, is_plain, common_of, PlainAmplitude, PlainRun, PlainRound, sum_step, write_step, run_of, round_of}
 use Rattle.signal.specs.Powers.{no_nan_of, no_power, power_step, plain_of, PowerOf}
-use Rattle.signal.specs.Bounds.{powers_to, no_nan_sum, told, all_plain}
-use Rattle.signal.specs.Loops.{summed_from, written_from}
+use Rattle.signal.proofs.Bounds.{powers_to, no_nan_sum, told, all_plain}
+use Rattle.signal.proofs.Loops.{summed_from, written_from}
 
 module _ (start count first : ℕ) (inside : start < 1024) (most : count ≤ 1024) (is_first : first ≡ min count (1024 - start)) where
   early : (k : ℕ) → k < first → start + k ≡ (start + k) % 1024

@@ -1,0 +1,5 @@
+pub mod AdmittedLaws
+pub mod Floor
+pub mod Laws
+pub mod Ranged
+pub mod Update

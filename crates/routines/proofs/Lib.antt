@@ -1,0 +1,10 @@
+pub mod AngleCode
+pub mod AngleLaws
+pub mod AngleRange
+pub mod CircleCode
+pub mod CircleLaws
+pub mod Enclosed
+pub mod HypotenuseCode
+pub mod HypotenuseLaws
+pub mod Reached
+pub mod Squares
