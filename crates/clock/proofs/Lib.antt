@@ -2,4 +2,4 @@ pub mod AdmittedLaws
 pub mod Floor
 pub mod Laws
 pub mod Ranged
-pub mod Update
+pub mod UpdateLaws
