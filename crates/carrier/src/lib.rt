@@ -1,5 +1,7 @@
 // The carrier loop, whichever detector it runs around: it turns each symbol back by its phase and by
 // the constellation's alternation, and follows the phase of what the detector missed by.
+#![tactic(auto)]
+
 ghost use Rattle.std.specs.Prelude.{◌≡◌, ◌≤◌};
 ghost use Rattle.carrier.specs.Carrier.{fresh_place, admitted_of, rotation_of, turned_back_of, corrected_of, unwound_of, phase_error_of};
 ghost use Rattle.carrier.specs.Carrier.{frequency_after_of, phase_after_of, error_after_of, is_locked, loop_after_of, carried_with};

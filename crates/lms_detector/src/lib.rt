@@ -1,5 +1,7 @@
 // The detector with the first tracker: the skeleton takes its step with the channels as they stand,
 // and then the channels follow by LMS steps what was received.
+#![tactic(auto)]
+
 ghost use Rattle.std.specs.Prelude.{◌≡◌};
 ghost use Rattle.lms_detector.specs.Detector.{detected_of};
 ghost use Rattle.lms_detector.specs.Ranges.{Ranged, RangedAfter};

@@ -1,15 +1,10 @@
 -- The detector's costs: what keeps each within 0 to 48. A step adds to each cost a metric within 0 to 16, keeps for each state the first cheapest of its
 -- four priors, and takes the least off all: each operation in f32, rounded. The invariant speaks of the costs alone, not of their past. Assumes nothing.
-use Rattle.std.specs.Prelude.{◌≡◌, ℕ, zero, suc, ◌+◌, ◌*◌, ◌/◌, ◌%◌, ◌<◌, Bool, true, false, not, cond, pos, Float}
-use Rattle.std.proofs.Math.Path.{refl, subst}
-use Rattle.std.proofs.Common.{sym, ap}
-use native.Mathlib.Omega.{arith}
+use Rattle.std.specs.Prelude.{ℕ, ◌+◌, ◌*◌, ◌/◌, ◌%◌, ◌<◌, false, cond, pos, Float}
 use Rattle.std.proofs.Math.Dec.{T}
-use Rattle.std.specs.Float.{nan, inf, fin}
+use Rattle.std.specs.Float.{inf, fin}
 use Rattle.std.specs.Float.Ieee.{binary32, add, sub, le, lt}
-use Rattle.std.specs.Float.Ieee.Scale.{finite}
-use Rattle.laws.specs.FloatOrder.{le_self, le_trans', lt→le, not_lt→le}
-use Rattle.laws.specs.FloatSums.{add_mono, sub_mono, sub_same, In, in_finite, add_in, in_wider}
+use Rattle.laws.specs.FloatSums.{In}
 use Rattle.trellis.specs.Metric.{c0, c16}
 
 abbrev pub c32 : Float
