@@ -1,5 +1,7 @@
 // `Complex32`, a pair of floats by value, and the few operations that several modules share. Each
 // part is one expression of once-rounded f32 operations, in the order written in specs/.
+#![tactic(auto)]
+
 ghost use Rattle.std.specs.Prelude.{◌≡◌};
 ghost use Rattle.complex.specs.Complex.{zero_pair, sum_of, difference_of, scaled_of, product_of, conjugate_product_of, power_of, both_finite, narrowed_of};
 

@@ -2,6 +2,8 @@
 // modulo 2^64, for both parts of a sample with one counter. A sum that leaves the 64 bits on the way
 // comes back into them: specs/Theorem.antt. The receiver runs `gathered` for each sample and `decimate`
 // at every d-th; tests take the same steps sample by sample with `stepped`.
+#![tactic(auto)]
+
 ghost use Rattle.std.specs.Prelude.{◌≡◌, ◌<◌};
 ghost use Rattle.std.specs.Float.{binary64};
 ghost use Rattle.std.specs.Float.Ieee.{of_int};

@@ -1,5 +1,5 @@
 -- One law for each way out of a function: what the code leaves there is the definition. Assumes nothing.
-use Rattle.std.specs.Prelude.{ℕ, zero, suc, ◌+◌, ◌-◌, ◌≤◌, ◌≡◌, refl, List, [], ◌∷◌, length, set, take, Float}
+use Rattle.std.specs.Prelude.{ℕ, zero, suc, ◌+◌, ◌≤◌, ◌≡◌, refl, List, [], ◌∷◌, length, set, take, Float}
 use Rattle.std.proofs.Common.{add-one, arith, sym, ap, ◌∙◌, take_all}
 use Rattle.complex.specs.declared.Complex32.{Complex32}
 use Rattle.decimator.specs.declared.Output.{Output}

@@ -1,4 +1,6 @@
 // The front: samples are mixed, decimated and resampled into a row of values, 19,200 a second.
+#![tactic(auto)]
+
 ghost use Rattle.std.specs.Prelude.{◌≡◌, ◌+◌, ◌-◌, ◌*◌, ◌/◌, ◌^◌, ◌<◌, ◌≤◌, length};
 ghost use Rattle.oscillator.specs.Oscillator.{Number};
 ghost use Rattle.resampler.specs.Admitted.{Admitted as RingAdmitted};

@@ -1,5 +1,7 @@
 // The five routines under C names, for a program in another language to link: bench/routines
 // compares and times them so.
+#![tactic(auto)]
+
 ghost use Rattle.std.specs.Prelude.{◌≡◌, length, set};
 ghost use Rattle.routines.specs.Circle.{sine_of, cosine_of, pair_of};
 ghost use Rattle.routines.specs.Angle.{arctangent_of};

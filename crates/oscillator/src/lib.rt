@@ -1,5 +1,7 @@
 // The mixer: a complex oscillator that turns by one step a sample, in f64, and moves the channel to 0
 // hertz.
+#![tactic(auto)]
+
 ghost use Rattle.std.specs.Prelude.{◌≡◌, ◌<◌};
 ghost use Rattle.oscillator.specs.declared.Step.{Step};
 ghost use Rattle.oscillator.specs.Oscillator.{fresh_of, admitted_of, renormalized_of, turned_of, conjugated_of, mirrored_of, Number, product_of, mixed_of, stepped_of};

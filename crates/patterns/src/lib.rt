@@ -1,4 +1,6 @@
 // Powers of two, shifts that round, and the parts of a float's bit pattern.
+#![tactic(auto)]
+
 ghost use Rattle.std.specs.Prelude.{◌≡◌, ◌-◌, ◌^◌, ◌<◌, ◌≤◌};
 ghost use Prim.Native.Nat as Nat;
 ghost use Rattle.std.specs.Float.{binary32, binary64};

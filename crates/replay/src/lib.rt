@@ -1,6 +1,8 @@
 // What the replay programs share: words from a list of bytes, a digest of answers, lines of
 // hexadecimal, and the numbers of states that are made from a seed. Test machinery: it is proved safe
 // and ending, and promises no more.
+#![tactic(auto)]
+
 ghost use Rattle.std.specs.Prelude.{◌≡◌, ◌+◌, ◌≤◌, length};
 
 use numbers::bits::{float32, pattern, pattern32};

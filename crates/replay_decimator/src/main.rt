@@ -1,6 +1,8 @@
 // Runs the decimator on each run of samples from standard input, from the run's own state, and
 // writes a line for each: the digest of what came out and of the state after it, in the order of the
 // list that the oracle prints.
+#![tactic(auto)]
+
 ghost use Rattle.std.specs.Prelude.{◌+◌, ◌<◌, ◌≤◌, length};
 
 use complex::Complex32;

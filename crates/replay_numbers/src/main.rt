@@ -1,5 +1,7 @@
 // Runs every number helper on each record of three words from standard input, and writes a line for
 // each record: the digest of the answers, in the order of the list that the oracle prints.
+#![tactic(auto)]
+
 ghost use Rattle.std.specs.Prelude.{◌≤◌};
 
 use numbers::{bits, compare, narrow};

@@ -1,5 +1,7 @@
 // Plays runs of samples from standard input through the mixer, and writes a line for each: the digest
 // of every mixed sample and of the oscillator after it. The samples come from the run's seed.
+#![tactic(auto)]
+
 ghost use Rattle.std.specs.Prelude.{◌<◌};
 
 use complex::Complex32;

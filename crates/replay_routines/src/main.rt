@@ -1,5 +1,7 @@
 // Runs the five routines on each record of three words from standard input, and writes a line for
 // each record: the digest of the answers, in the order of the list that the oracle prints.
+#![tactic(auto)]
+
 use numbers::bits;
 use replay::{mixed_float, mixed_float32, print_line, word};
 use routines::angle::arctangent;

@@ -1,5 +1,7 @@
 // Plays a list of pushes and reads from standard input through the constellation view, and writes a
 // line for each: the digest of what it answered, the floats lent to a read included.
+#![tactic(auto)]
+
 use complex::{Complex32, Observation};
 use replay::{any, mark, mixed, mixed_float, mixed_float32, mixed_plane, print_line, word};
 use signal::{POINTS, Reading, ViewPlace};

@@ -1,6 +1,6 @@
 -- The Rust's pass in its own terms (its `process`, from the ring on): signed positions, an open loop that returns by its test, a place in the ring that is a remainder and comes round tap by tap, and
 -- the outputs in the order of its sink. Definitions only.
-use Rattle.std.specs.Prelude.{ℕ, ◌+◌, ◌-◌, ◌%◌, Bool, cond, List, [], ◌∷◌, ◌++◌, length, ℤ, pos, ◌+ℤ◌, ◌-ℤ◌, ◌==◌, int_lt, slice_index_or, slice_set, Float}
+use Rattle.std.specs.Prelude.{ℕ, ◌+◌, ◌%◌, Bool, cond, List, [], ◌∷◌, ◌++◌, length, ℤ, pos, ◌+ℤ◌, ◌-ℤ◌, ◌==◌, int_lt, slice_index_or, slice_set, Float}
 use mathlib.Core.List.{foldl}
 use Rattle.std.specs.Float.{nan, binary32, binary64}
 use Rattle.std.specs.Float.Ieee.{of_int, to_signed, to_unsigned, add, sub, mul}

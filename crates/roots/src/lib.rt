@@ -2,6 +2,8 @@
 // moved up to the highest even place, and the root is taken a binary digit at a time, one digit more
 // than the format keeps: that digit rounds, since no root of a float is a tie. The digits of an `f64`
 // are first guessed by floats; a guess is taken where a comparison of whole numbers shows it right.
+#![tactic(auto)]
+
 ghost use Rattle.std.specs.Prelude.{◌≡◌, ◌+◌, ◌*◌, ◌^◌, ◌<◌, ◌≤◌, true, if◌then◌else◌, nat_le};
 ghost use Rattle.std.specs.Float.{binary32, binary64};
 ghost use Rattle.numbers.specs.Root.{round_root, sqrt_of};

@@ -1,4 +1,6 @@
 // A block's samples by themselves: whether all are finite, and how many are overloaded.
+#![tactic(auto)]
+
 ghost use Rattle.std.specs.Prelude.{◌≡◌, ◌+◌, ◌<◌, ◌≤◌, length};
 ghost use Rattle.samples.specs.Samples.{still_finite, finite_of, tallied, is_at_end, overload_of, measured_of};
 ghost use Rattle.samples.specs.Inside.{is_inside, all_inside};

@@ -1,4 +1,6 @@
 // The matched filter's 1,025 taps and their derivatives.
+#![tactic(auto)]
+
 ghost use Rattle.std.specs.Prelude.{◌≡◌, reverse};
 ghost use Rattle.taps.specs.Taps.{both_tables};
 

@@ -1,4 +1,6 @@
 // Rounding to whole numbers, and whole numbers to and from floats.
+#![tactic(auto)]
+
 ghost use Rattle.std.specs.Prelude.{◌≡◌, ◌^◌, ◌<◌, ◌≤◌, false, pos, unsigned_abs};
 ghost use Rattle.std.specs.Float.{binary32, binary64};
 ghost use Rattle.std.specs.Float.Ieee.{round, of_int, to_signed, to_unsigned};

@@ -1,6 +1,5 @@
 -- `gather` meets its contract: each turn is a sample into the integrators, and the counter of turns stays below 4,096.
 use borrow.Author.Rules.{rules}
-use Prim.Native.Nat.{◌-◌}
 use native.Mathlib.Omega.{arith}
 use mathlib.Core.Path.{◌∙◌}
 use Rattle.laws.specs.Turns.{turns_start, turns_step, turns_end}

@@ -3,7 +3,7 @@ use Rattle.drift_detector.specs.Ranges.{Ranged}
 use Rattle.replay_drift_detector.proofs.run.Given as goal
 
 abbrev pub invariant-loop-left : goal.invariant-loop-left
-invariant-loop-left l = Ranged l.p (record { channels = record { l.real = l.real; l.imaginary = l.imaginary }; l.drift = l.drift; l.inverse = l.inverse }) l.costs l.parents
+invariant-loop-left l = Ranged l.p (record { channels = record { real = l.real; imaginary = l.imaginary }; drift = l.drift; inverse = l.inverse }) l.costs l.parents
 
 abbrev pub decreases-loop-left : goal.decreases-loop-left
 decreases-loop-left l = l.left

@@ -12,4 +12,4 @@ pub run-h-requires : goal.run-h-requires
 run-h-requires c =
     let is_admitted = c.is_admitted in
     let test = c.if-is_admitted in
-    let sized = c.sized-s in record { admitted = admitted_facts _ (sym is_admitted.ensures ∙ test.true); counter_lt_decimation = subst (λ (d : Decimator). d.counter < d.decimation) (sym c.fresh-d.ensures) (unfold fresh_of in sized.ensures.1.decimation_low) }
+    let sized = c.sized-s in record { admitted = admitted_facts _ (sym is_admitted.ensures ∙ test.true); counter_lt_decimation = subst (λ (d : Decimator). d.counter < d.decimation) (sym c.fresh-d.ensures) (unfold fresh_of in sized.ensures.ranges.decimation_low) }

@@ -1,5 +1,5 @@
 -- `run` is safe and ends: fewer samples are left at each turn, the counter stays below d and the resampler admitted.
-use Rattle.std.proofs.Common.{arith, ltb-true}
+use Rattle.std.proofs.Common.{arith}
 use Rattle.replay_resampler.proofs.run.Goals as goal
 
 pub loop-left-init : goal.loop-left-init
@@ -14,7 +14,7 @@ pub taken-p-requires : goal.taken-p-requires
 taken-p-requires c =
     let inv = c.loop-left.invariant in
     let test = c.if-r-lt-MOST in
-    record { admitted = inv.1; index_bound = ltb-true _ _ test.true }
+    record { admitted = inv.1; index_bound = test.true }
 
 pub overflow_sub-left : goal.overflow_sub-left
 overflow_sub-left c =

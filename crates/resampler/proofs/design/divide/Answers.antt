@@ -1,5 +1,5 @@
 -- `divide` meets its contract: each of the first places is divided by the sum and multiplied by 32, once.
-use Rattle.std.proofs.Common.{◌-◌, refl, length-set, rules}
+use Rattle.std.proofs.Common.{refl, length-set, rules}
 use Rattle.resampler.specs.Loops.{divided_of}
 use Rattle.laws.specs.Turns.{turns_start, turns_step, turns_end}
 use Rattle.resampler.proofs.design.divide.Goals as goal

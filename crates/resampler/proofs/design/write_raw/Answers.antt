@@ -1,5 +1,5 @@
 -- `write_raw` meets its contract: each turn writes a tap at its place and adds it, and the last tap is added alone.
-use Rattle.std.proofs.Common.{◌-◌, refl, ◌∙◌, length-set, rules}
+use Rattle.std.proofs.Common.{refl, ◌∙◌, length-set, rules}
 use Rattle.resampler.specs.Taps.{both_next}
 use Rattle.resampler.specs.Taps.{raw_from_lem}
 use Rattle.laws.specs.Turns.{turns_start}

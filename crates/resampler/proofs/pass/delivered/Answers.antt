@@ -1,5 +1,5 @@
 -- `delivered` meets its contract: at each turn what is left to do is what is left of the whole pass, and a third output is never due.
-use Rattle.std.proofs.Common.{◌-◌, sym, ◌∙◌, arith}
+use Rattle.std.proofs.Common.{sym, ◌∙◌, arith}
 use Rattle.resampler.specs.AdmittedLaws.{stands_first, stands_few, one_output, stands_next, stands_last}
 use Rattle.resampler.proofs.pass.delivered.Goals as goal
 

@@ -1,5 +1,5 @@
 -- `summed` meets its contract: each turn adds a product to each part, in the order of the definition.
-use Rattle.std.proofs.Common.{◌-◌, rules}
+use Rattle.std.proofs.Common.{rules}
 use Rattle.resampler.specs.Loops.{run_of}
 use Rattle.laws.specs.Turns.{turns_start, turns_step, turns_end}
 use Rattle.resampler.proofs.pass.summed.Goals as goal
