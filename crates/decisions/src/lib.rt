@@ -1,6 +1,8 @@
 // Decisions: a row of equalized symbols, each with whether it is reliable, to a row of answers, through
 // carrier with detector, and view. Channels, costs, parents and the view's points are planes that the
 // caller lends; the soft records go by value.
+#![tactic(auto)]
+
 ghost use Rattle.std.specs.Prelude.{◌≡◌, ◌≤◌};
 ghost use Rattle.decisions.specs.Rows.{row_of};
 ghost use Rattle.decisions.specs.Ranges.{Asks};

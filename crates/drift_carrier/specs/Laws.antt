@@ -13,7 +13,7 @@ use Rattle.carrier.specs.Laws.{alternation_below}
 use Rattle.drift_detector.specs.Detector as Detector
 use Rattle.drift_detector.specs.Laws.{detected_ranged}
 use Rattle.drift_carrier.specs.Carrier.{CarrierStep, carried_from, carried_of}
-use Rattle.drift_carrier.specs.Ranges.{Ranged, RangedAfter}
+use Rattle.drift_carrier.specs.Ranges.{RangedAfter}
 
 -- ADMITTED IN, ADMITTED OUT: whatever the memory was, what the step leaves is whole
 pub carried_ranged : (c : CarrierPlace) (z : Complex32) (reliable : Bool) (oldest : Soft) (memory : Memory) (costs : List Float) (parents : List ℕ)

@@ -1,5 +1,7 @@
 // The carrier around the detector with the second tracker: a symbol is corrected, the detector takes its
 // step with it, and the loop follows.
+#![tactic(auto)]
+
 ghost use Rattle.std.specs.Prelude.{◌≡◌};
 ghost use Rattle.drift_detector.specs.Lends.{Given};
 ghost use Rattle.drift_carrier.specs.Carrier.{carried_of};

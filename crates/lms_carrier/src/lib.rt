@@ -1,5 +1,7 @@
 // The carrier around the detector with the first tracker: a symbol is corrected, the detector takes its
 // step with it, and the loop follows.
+#![tactic(auto)]
+
 ghost use Rattle.std.specs.Prelude.{◌≡◌};
 ghost use Rattle.lms_carrier.specs.Carrier.{carried_of};
 ghost use Rattle.lms_carrier.specs.Ranges.{Ranged, RangedAfter};

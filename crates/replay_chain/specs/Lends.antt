@@ -1,14 +1,14 @@
 -- What a row and a run are lent, by the names of their parameters: each is a type that computes to the clause written out. Definitions only.
 use Rattle.std.specs.Prelude.{ℕ, Float}
-use Rattle.laws.specs.Lent.{Now, Lends}
+use Rattle.laws.specs.Lent.{NowMut, LendsMut}
 use Rattle.chain.specs.declared.ChainPlace.{ChainPlace}
 use Rattle.chain.specs.Chain.{ChainState, state_of}
 use Rattle.second.specs.declared.Second.{Second}
 use Rattle.second.specs.Second.{second_of}
 
 -- the chain as it is given
-module _ (p : ChainPlace) (s : Second) (keeper_real keeper_imaginary clock_real clock_imaginary weight_real weight_imaginary : Now Float)
-    (channel_real channel_imaginary costs : Now Float) (parents : Now ℕ) (view_real view_imaginary : Now Float) (memory : Now Float) (ancestors : Now ℕ) where
+module _ (p : ChainPlace) (s : Second) (keeper_real keeper_imaginary clock_real clock_imaginary weight_real weight_imaginary : NowMut Float)
+    (channel_real channel_imaginary costs : NowMut Float) (parents : NowMut ℕ) (view_real view_imaginary : NowMut Float) (memory : NowMut Float) (ancestors : NowMut ℕ) where
   abbrev pub Given : (ChainState → Type 0) → Type 0
   Given P =
       P
@@ -22,8 +22,8 @@ module _ (p : ChainPlace) (s : Second) (keeper_real keeper_imaginary clock_real 
       (second_of s memory.now ancestors.now))
 
 -- and as it is left
-module _ (p : ChainPlace) (s : Second) (keeper_real keeper_imaginary clock_real clock_imaginary weight_real weight_imaginary : Lends Float)
-    (channel_real channel_imaginary costs : Lends Float) (parents : Lends ℕ) (view_real view_imaginary : Lends Float) (memory : Lends Float) (ancestors : Lends ℕ) where
+module _ (p : ChainPlace) (s : Second) (keeper_real keeper_imaginary clock_real clock_imaginary weight_real weight_imaginary : LendsMut Float)
+    (channel_real channel_imaginary costs : LendsMut Float) (parents : LendsMut ℕ) (view_real view_imaginary : LendsMut Float) (memory : LendsMut Float) (ancestors : LendsMut ℕ) where
   abbrev pub Left : (ChainState → Type 0) → Type 0
   Left P =
       P

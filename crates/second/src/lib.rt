@@ -2,6 +2,8 @@
 // of answers, through a carrier of its own around the detector with the second tracker. What the tracker
 // knows of the channel and the detector's costs lie in one array, which the caller lends with the parents;
 // the soft records go by value.
+#![tactic(auto)]
+
 ghost use Rattle.std.specs.Prelude.{◌≡◌, ◌≤◌, length};
 ghost use Rattle.second.specs.Second.{fresh_second, fresh_floats};
 ghost use Rattle.second.specs.Rows.{row_of};

@@ -1,8 +1,6 @@
 -- `decide` meets its contract: after i turns the first i symbols of the row are decided.
-use Prim.Native.Nat.{◌-◌}
 use native.Mathlib.Omega.{arith}
 use Rattle.decisions.specs.Laws.{row_start, row_step, next_asks, row_end}
-use borrow.Author.Rules.{rules}
 use Rattle.decisions.proofs.decide.Goals as goal
 
 pub loop-i-init : goal.loop-i-init

@@ -1,6 +1,5 @@
 -- `copy` meets its contract: after k turns the first k numbers are copied.
 use mathlib.Core.Path.{refl}
-use Prim.Native.Nat.{◌-◌}
 use Rattle.laws.specs.Places.{fill_start, fill_step}
 use Rattle.second.specs.Parts.{copied_is}
 use borrow.Author.Rules.{rules}

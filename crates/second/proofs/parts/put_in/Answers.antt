@@ -1,6 +1,5 @@
 -- `put_in` meets its contract: five copies, each into its part.
 use Rattle.second.specs.Parts.{put_is}
-use native.Mathlib.Omega.{arith}
 use Rattle.second.proofs.parts.put_in.Goals as goal
 
 pub returns : goal.returns

@@ -1,5 +1,4 @@
 -- `inverses` meets its contract: 8,192 turns, each storing the number of its place.
-use Prim.Native.Nat.{◌-◌}
 use lib.Ieee.{nan}
 use Rattle.laws.specs.Places.{fill_start, fill_step, fill_end}
 use Rattle.second.specs.Prior.{number_at}

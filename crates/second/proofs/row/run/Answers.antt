@@ -1,9 +1,7 @@
 -- `run` meets its contract: after i turns the first i symbols of the row are decided, and the inverses are in the array of that turn.
 use mathlib.Core.Path.{refl}
-use Prim.Native.Nat.{◌-◌}
 use native.Mathlib.Omega.{arith}
 use Rattle.second.specs.Laws.{first_asks, row_start, row_step, next_held, held_end}
-use borrow.Author.Rules.{rules}
 use Rattle.second.proofs.row.run.Goals as goal
 
 pub loop-i-init : goal.loop-i-init
