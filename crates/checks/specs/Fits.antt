@@ -3,7 +3,7 @@ use Rattle.std.specs.Prelude.{◌≡◌, true, ◌&&◌, List, ℕ, ◌*◌, ◌
 use Rattle.std.proofs.Common.{leb-true, le-leb}
 use Rattle.laws.specs.Branches.{and_true}
 use Rattle.front.specs.Admitted as Front
-use Rattle.front.specs.AdmittedLaws as FrontLaws
+use Rattle.front.proofs.AdmittedLaws as FrontLaws
 use Rattle.peak.specs.Peak as Peak
 use Rattle.peak.proofs.Laws as PeakLaws
 use Rattle.clock.specs.Clock as Clock

@@ -1,14 +1,3 @@
 pub mod Decimator
 pub mod Demand
-pub mod Cases
-pub mod Theorem
-pub mod Values
-pub mod AdmittedLaws
-pub mod Rows
-pub mod Part
-pub mod Past
-pub mod Boxes
-pub mod FiniteSums
-pub mod Residues
 pub mod Quantiser
-pub mod Steps

@@ -2,11 +2,3 @@ pub mod Resample
 pub mod Front
 pub mod Admitted
 pub mod Lends
-pub mod AdmittedLaws
-pub mod Runs
-pub mod Laws
-pub mod Draws
-pub mod Steps
-pub mod Rows
-pub mod FiltersForget
-pub mod Forgets

@@ -26,13 +26,13 @@ use Rattle.decimator.specs.declared.Counts.{Counts}
 use Rattle.decimator.specs.declared.RawOutput.TheVariants.{Silent, Sum}
 use Rattle.decimator.specs.Decimator.{Counting, counts_of, fresh_of, scaled_of, raw_outputs_of, output_of, stepped_of, outputs_of}
 use Rattle.decimator.specs.Demand.{ago, sums_at}
-use Rattle.decimator.specs.Part.{Words}
-use Rattle.decimator.specs.Theorem.{decimates_at, wrapped_sums, demanded_sum, demanded_silent, Within, decimates_exactly, recovers}
-use Rattle.decimator.specs.Values.{fresh_counting, outputs_above, outputs_through, outputs_forget}
+use Rattle.decimator.proofs.Part.{Words}
+use Rattle.decimator.proofs.Theorem.{decimates_at, wrapped_sums, demanded_sum, demanded_silent, Within, decimates_exactly, recovers}
+use Rattle.decimator.proofs.Values.{fresh_counting, outputs_above, outputs_through, outputs_forget}
 use Rattle.resampler.specs.Dimensions.{decimation_of, decimated_of, arm_length_of, sized_of}
 use Rattle.front.specs.Resample.{resample_state, resample_values}
 use Rattle.resampler.specs.Admitted.{Sized}
-use Rattle.resampler.specs.Ranges.{sized_in}
+use Rattle.resampler.proofs.Ranges.{sized_in}
 use Rattle.front.specs.Front as front
 use Rattle.taps.specs.Taps.{both_tables}
 use Rattle.answers.specs.declared.soft.Slot.{Slot}

@@ -16,10 +16,10 @@ use Rattle.decimator.specs.declared.Output.TheVariants.{Nothing, Value}
 use Rattle.decimator.specs.declared.Counts.{Counts}
 use Rattle.decimator.specs.Decimator.{quantised_of, counts_of, scaled_of}
 use Rattle.decimator.specs.Demand.{no_counts, ago, wrapped}
-use Rattle.decimator.specs.Boxes.{weighted_same}
-use Rattle.decimator.specs.Theorem.{wrapped_sums}
-use Rattle.decimator.specs.Values.{outputs_through}
-use Rattle.front.specs.FiltersForget.{Like}
+use Rattle.decimator.proofs.Boxes.{weighted_same}
+use Rattle.decimator.proofs.Theorem.{wrapped_sums}
+use Rattle.decimator.proofs.Values.{outputs_through}
+use Rattle.front.proofs.FiltersForget.{Like}
 use Rattle.resampler.specs.Dimensions.{sized_of}
 use Rattle.front.specs.Front as front
 use Rattle.oscillator.specs.Oscillator.{conjugated_of}

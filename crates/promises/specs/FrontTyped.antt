@@ -12,7 +12,7 @@ use Rattle.decimator.specs.declared.Decimator.{Decimator}
 use Rattle.decimator.specs.declared.Output.{Output}
 use Rattle.decimator.specs.declared.Output.TheVariants.{Nothing, Value}
 use Rattle.decimator.specs.Decimator.{integrated_of, advanced_of, counts_of, fresh_of, stepped_of}
-use Rattle.decimator.specs.Part.{Words}
+use Rattle.decimator.proofs.Part.{Words}
 use Rattle.oscillator.specs.Oscillator.{conjugated_of, mixed_of}
 use Rattle.front.specs.Resample.{ResamplerState, resample_state}
 use Rattle.resampler.specs.Pass.{resampled_of}

@@ -20,11 +20,11 @@ use Rattle.decimator.specs.declared.Output.TheVariants.{Nothing, Value}
 use Rattle.decimator.specs.declared.Step.{Step}
 use Rattle.decimator.specs.Decimator.{counts_of, scaled_of, absorbed_of, silent_of, sounded_of, released_of, advanced_of, output_of, stepped_of, outputs_of}
 use Rattle.decimator.specs.Decimator.{Counting}
-use Rattle.decimator.specs.Values.{step_above, step_through, step_counting, outputs_length}
+use Rattle.decimator.proofs.Values.{step_above, step_through, step_counting, outputs_length}
 use Rattle.front.specs.Resample.{ResamplerState, resample_state, resample_values}
 use Rattle.resampler.specs.Pass.{pushed_of, resampled_of}
-use Rattle.resampler.specs.Forgets.{next_same}
-use Rattle.front.specs.FiltersForget.{Like, like_other, like_more, values_same}
+use Rattle.resampler.proofs.Forgets.{next_same}
+use Rattle.front.proofs.FiltersForget.{Like, like_other, like_more, values_same}
 use Rattle.front.specs.Front as front
 use Rattle.oscillator.specs.Oscillator.{conjugated_of}
 use Rattle.receiver_state.specs.declared.state.Receiver.{Receiver}

@@ -21,8 +21,9 @@ use Rattle.oscillator.specs.declared.Oscillator.{Oscillator}
 use Rattle.oscillator.specs.Oscillator.{turned_of, product_of}
 use Rattle.decimator.specs.Decimator.{quantised_of, counts_of}
 use Rattle.decimator.specs.Demand.{no_counts, ago}
-use Rattle.decimator.specs.Theorem.{Within}
-use Rattle.decimator.specs.Quantiser.{factor, middle, within, quantises_within, quantises_beyond}
+use Rattle.decimator.proofs.Theorem.{Within}
+use Rattle.decimator.specs.Quantiser.{within}
+use Rattle.decimator.proofs.QuantiserLaws.{factor, middle, quantises_within, quantises_beyond}
 use Rattle.promises.specs.Taken.{mixed_row}
 
 -- at most 2 ^ k in size

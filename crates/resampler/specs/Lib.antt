@@ -4,15 +4,7 @@ pub mod Pass
 pub mod Admitted
 pub mod Lends
 pub mod Loops
-pub mod Cases
-pub mod Ranges
 pub mod AdmittedLaws
-pub mod Latest
-pub mod Forgets
-pub mod Taps
-pub mod Window
 pub mod Outputs
 pub mod Ticks
-pub mod Scaled
 pub mod RustPass
-pub mod AsTheRust

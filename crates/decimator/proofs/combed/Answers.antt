@@ -1,7 +1,7 @@
 -- `combed` meets its contract: each difference of two words is the one modulo 2^64.
 use Rattle.std.proofs.Common.{to_z-of_z, w64, Fits, rules}
-use Rattle.decimator.specs.Steps.{Differences, combed_is}
-use Rattle.decimator.specs.Steps.{combed_is}
+use Rattle.decimator.proofs.Steps.{Differences, combed_is}
+use Rattle.decimator.proofs.Steps.{combed_is}
 use Rattle.decimator.proofs.combed.Goals as goal
 
 pub returns : goal.returns

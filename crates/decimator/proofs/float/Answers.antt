@@ -1,6 +1,6 @@
 -- `float` meets its contract: below 2^53 in size the cast is exact, and from there on `from_i64` rounds.
 use Rattle.std.proofs.Common.{ap, ◌∙◌, to_z-of_z}
-use Rattle.decimator.specs.Steps.{small_float}
+use Rattle.decimator.proofs.Steps.{small_float}
 use lib.Ieee.{binary64, of_int}
 use Rattle.decimator.proofs.float.Goals as goal
 

@@ -1,7 +1,7 @@
 -- `integrated` meets its contract: each sum of two words is the one modulo 2^64.
 use Rattle.std.proofs.Common.{ap, ◌∙◌, to_z-of_z}
 use Rattle.numbers.specs.Bits.{unsigned_of}
-use Rattle.decimator.specs.Steps.{integrated_is}
+use Rattle.decimator.proofs.Steps.{integrated_is}
 use Rattle.decimator.proofs.integrated.Goals as goal
 
 pub returns : goal.returns

@@ -3,7 +3,7 @@ use Rattle.std.proofs.Common.{◌≡◌, le-ltb, lt-ltb}
 use Rattle.decimator.specs.declared.Step.{Step}
 use Rattle.decimator.specs.declared.Output.TheVariants.{Value}
 use Rattle.decimator.specs.Decimator.{stepped_of}
-use Rattle.decimator.specs.Values.{stepped_counting}
+use Rattle.decimator.proofs.Values.{stepped_counting}
 use Rattle.decimator.proofs.stepped.Goals as goal
 
 pub returns-then-d-gt1 : goal.returns-then-d-gt1

@@ -1,5 +1,5 @@
 -- `rounded` meets its contract: the product is exact, and adding and taking off 3 * 2^51 brings it to the nearest whole number.
-use Rattle.decimator.specs.Quantiser.{quantises_within}
+use Rattle.decimator.proofs.QuantiserLaws.{quantises_within}
 use Rattle.std.proofs.Common.{◌∙◌, to_z-of_z, w64, rules}
 use lib.Ieee.Casts.{to_signed_in}
 use lib.Ieee.{of_bits}

@@ -1,7 +1,7 @@
 -- `saturated` meets its contract: the product is whole, and `to_i64` saturates it.
 use Rattle.std.proofs.Common.{ap, ◌∙◌, to_z-of_z, w64, rules}
 use lib.Ieee.{Float, binary64, of_bits, to_signed, mul}
-use Rattle.decimator.specs.Quantiser.{quantises_beyond}
+use Rattle.decimator.proofs.QuantiserLaws.{quantises_beyond}
 use Rattle.decimator.proofs.quantiser.saturated.Goals as goal
 
 pub returns : goal.returns

@@ -1,6 +1,6 @@
 -- `filtered` meets its contract: the last c values stand in one straight run or in two, and the sum goes run by run.
 use Rattle.std.proofs.Common.{length, arith}
-use Rattle.resampler.specs.Window.{oldest_in, base_small, filtered_one, filtered_two}
+use Rattle.resampler.proofs.Window.{oldest_in, base_small, filtered_one, filtered_two}
 use Rattle.laws.specs.Places.{row_ends}
 use Rattle.resampler.proofs.pass.filtered.Goals as goal
 

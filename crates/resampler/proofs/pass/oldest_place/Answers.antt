@@ -1,6 +1,6 @@
 -- `oldest_place` meets its contract: the oldest of the last c values stands 16 places on, or c places back.
 use Rattle.std.proofs.Common.{[]}
-use Rattle.resampler.specs.Window.{oldest_low, oldest_high}
+use Rattle.resampler.proofs.Window.{oldest_low, oldest_high}
 use Rattle.resampler.proofs.pass.oldest_place.Goals as goal
 
 pub returns-then-write-arm : goal.returns-then-write-arm

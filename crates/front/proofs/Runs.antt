@@ -20,7 +20,7 @@ use Rattle.decimator.specs.declared.Advance.{Advance}
 use Rattle.decimator.specs.declared.Output.TheVariants.{Nothing, Value}
 use Rattle.decimator.specs.declared.Step.{Step}
 use Rattle.decimator.specs.Decimator.{Counting, counts_of, absorbed_of, silent_of, sounded_of, advanced_of, decimated_of, output_of, stepped_of}
-use Rattle.decimator.specs.Values.{step_above, step_through, step_counting}
+use Rattle.decimator.proofs.Values.{step_above, step_through, step_counting}
 use Rattle.front.specs.declared.FrontPlace.{FrontPlace}
 use Rattle.front.specs.declared.Gathering.{Gathering}
 use Rattle.front.specs.declared.Drawn.{Drawn}

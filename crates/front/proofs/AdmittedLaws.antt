@@ -4,7 +4,7 @@ use Rattle.laws.specs.Branches.{and_true}
 use Rattle.oscillator.specs.Oscillator as oscillator
 use Rattle.oscillator.specs.Laws as oscillator_laws
 use Rattle.decimator.specs.Decimator as decimator
-use Rattle.decimator.specs.AdmittedLaws as decimator_laws
+use Rattle.decimator.proofs.AdmittedLaws as decimator_laws
 use Rattle.resampler.specs.Pass as resampler
 use Rattle.resampler.specs.AdmittedLaws as resampler_laws
 use Rattle.front.specs.declared.FrontPlace.{FrontPlace}

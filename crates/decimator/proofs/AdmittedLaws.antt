@@ -5,7 +5,7 @@ use Rattle.laws.specs.Branches.{and_true}
 use Rattle.complex.specs.declared.Complex32.{Complex32}
 use Rattle.decimator.specs.declared.Decimator.{Decimator}
 use Rattle.decimator.specs.Decimator.{fresh_of, admitted_of, Admitted, Counting, stepped_of}
-use Rattle.decimator.specs.Values.{step_counting}
+use Rattle.decimator.proofs.Values.{step_counting}
 
 pub admitted_facts : (d : Decimator) → admitted_of d ≡ true → Admitted d
 admitted_facts d e =

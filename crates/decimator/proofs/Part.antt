@@ -9,8 +9,8 @@ use Rattle.decimator.specs.declared.Delays.{Delays}
 use Rattle.numbers.specs.Bits.{signed_of}
 use Rattle.decimator.specs.Decimator.{wrap_add, wrap_sub, integrated_of, combed_of}
 use Rattle.decimator.specs.Demand.{weighted, wrapped}
-use Rattle.decimator.specs.Boxes.{newest, total, box, Total, total_is, total_box, box_total, boxes, weighted_is}
-use Rattle.decimator.specs.Residues.{wrap_add_lem, wrap_sub_lem}
+use Rattle.decimator.proofs.Boxes.{newest, total, box, Total, total_is, total_box, box_total, boxes, weighted_is}
+use Rattle.decimator.proofs.Residues.{wrap_add_lem, wrap_sub_lem}
 
 abbrev bits : ℤ → ℕ
 bits z = modulo (2 ^ 64) z

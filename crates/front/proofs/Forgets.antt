@@ -25,12 +25,12 @@ use Rattle.decimator.specs.declared.Output.TheVariants.{Nothing, Value}
 use Rattle.decimator.specs.declared.Step.{Step}
 use Rattle.decimator.specs.Decimator.{Counting, counts_of, scaled_of, absorbed_of, silent_of, sounded_of, released_of, advanced_of, raw_outputs_of, output_of, stepped_of, outputs_of}
 use Rattle.decimator.specs.Demand.{wrapped, sums_at}
-use Rattle.decimator.specs.Part.{Words}
-use Rattle.decimator.specs.Theorem.{recovers}
-use Rattle.decimator.specs.Values.{step_above, step_through, step_counting, outputs_above}
+use Rattle.decimator.proofs.Part.{Words}
+use Rattle.decimator.proofs.Theorem.{recovers}
+use Rattle.decimator.proofs.Values.{step_above, step_through, step_counting, outputs_above}
 use Rattle.front.specs.Resample.{ResamplerState, resample_state, resample_values}
 use Rattle.resampler.specs.Pass.{resampled_of}
-use Rattle.front.specs.FiltersForget.{Like, like_other, like_more, values_same}
+use Rattle.front.proofs.FiltersForget.{Like, like_other, like_more, values_same}
 use Rattle.front.specs.Front.{sample_at, Rung, Run, ring_of, front_step, more, front_of, rung_at, made_of, reach_of}
 use Rattle.front.specs.Admitted.{Admitted}
 

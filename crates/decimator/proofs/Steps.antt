@@ -10,7 +10,7 @@ use Rattle.decimator.specs.declared.Sums.{Sums}
 use Rattle.decimator.specs.declared.Delays.{Delays}
 use Rattle.decimator.specs.declared.Difference.{Difference}
 use Rattle.decimator.specs.Decimator.{wrap_add, wrap_sub, integrated_of, combed_of}
-use Rattle.decimator.specs.Residues.{only_one}
+use Rattle.decimator.proofs.Residues.{only_one}
 
 -- the bits of a signed 64-bit number are the number modulo 2 ^ 64
 bits_modulo : (z : ℤ) → mag z < 2 ^ 63 → unsigned_of z ≡ modulo (2 ^ 64) z

@@ -19,7 +19,7 @@ use Rattle.decimator.specs.declared.Output.TheVariants.{Nothing, Value}
 use Rattle.decimator.specs.declared.Step.{Step}
 use Rattle.decimator.specs.Decimator.{counts_of, fresh_of, Counting, scaled_of, absorbed_of, silent_of, sounded_of, advanced_of, raw_outputs_of, output_of, stepped_of, outputs_of}
 use Rattle.decimator.specs.Demand.{no_counts, ago, demanded}
-use Rattle.decimator.specs.Theorem.{decimates_at, wrapped_sums, demanded_sum, demanded_silent, forgets_at}
+use Rattle.decimator.proofs.Theorem.{decimates_at, wrapped_sums, demanded_sum, demanded_silent, forgets_at}
 
 -- ---- what a step keeps
 pub fresh_counting : (d : ℕ) → 0 < d → Counting d (fresh_of d)

@@ -13,11 +13,11 @@ use Rattle.decimator.specs.declared.RawOutput.{RawOutput}
 use Rattle.decimator.specs.declared.RawOutput.TheVariants.{Silent, Sum}
 use Rattle.decimator.specs.Decimator.{fresh_of, advanced_of, raw_outputs_of}
 use Rattle.decimator.specs.Demand.{sum_z, weighted, wrapped, no_counts, ago, sums_at, demanded, demanded_row}
-use Rattle.decimator.specs.Boxes.{triple, weighted_is, weighted_same}
-use Rattle.decimator.specs.Residues.{nat_abs_add, wrapped_id}
-use Rattle.decimator.specs.Past.{past, past_at, past_before}
-use Rattle.decimator.specs.Part.{kept_fresh, Words, oldest, middle, latest, kept_any}
-use Rattle.decimator.specs.Rows.{Holds, said, expected, raw_output_at}
+use Rattle.decimator.proofs.Boxes.{triple, weighted_is, weighted_same}
+use Rattle.decimator.proofs.Residues.{nat_abs_add, wrapped_id}
+use Rattle.decimator.proofs.Past.{past, past_at, past_before}
+use Rattle.decimator.proofs.Part.{kept_fresh, Words, oldest, middle, latest, kept_any}
+use Rattle.decimator.proofs.Rows.{Holds, said, expected, raw_output_at}
 
 -- ---- THE THEOREM: from fresh, the raw outputs of every row are those demanded
 raw_outputs_length : (s : Decimator) (xs : List Counts) → length (raw_outputs_of s xs) ≡ length xs
