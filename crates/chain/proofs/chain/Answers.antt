@@ -19,7 +19,8 @@ returns-then-r-eq0 c =
 
 pub later-l-requires : goal.later-l-requires
 later-l-requires c =
-    later_asks _ _ _ _ _ refl _ c.recover-r.ensures.0 _ _ c.delivery_place-undelivered.ensures c.requires.made_bound c.requires.given
+    let b = later_asks _ _ _ _ _ refl _ c.recover-r.ensures.0 _ _ c.delivery_place-undelivered.ensures c.requires.made_bound c.requires.given in
+    record { given_later = b.0; count_bound = b.1 }
 
 pub shape_of-memory : goal.shape_of-memory
 shape_of-memory c =

@@ -11,7 +11,8 @@ loop-t-init c = (search rules, search rules, refl, going_start _ _ _ _ _ c.requi
 
 pub front-f-requires : goal.front-f-requires
 front-f-requires c =
-    front_asks _ _ _ _ _ _ c.requires c.loop-t.invariant.3 c.loop-t-test.true
+    let b = front_asks _ _ _ _ _ _ c.requires c.loop-t.invariant.3 c.loop-t-test.true in
+    record { admitted = b.0; numbers = b.1.0; arm_in_bounds = b.1.1.0; from_bound = b.1.1.1.0; from_in_bounds = b.1.1.1.1 }
 
 pub overflow_add-at : goal.overflow_add-at
 overflow_add-at c =
@@ -20,7 +21,8 @@ overflow_add-at c =
 
 pub chain-c-requires : goal.chain-c-requires
 chain-c-requires c =
-    chain_asks _ _ _ _ _ _ c.requires c.loop-t.invariant.3 c.front-f.result refl refl c.front-f.ensures.kept
+    let b = chain_asks _ _ _ _ _ _ c.requires c.loop-t.invariant.3 c.front-f.result refl refl c.front-f.ensures.kept in
+    record { given = b.0; made_bound = b.1 }
 
 -- the last row
 pub shape_of-memory-then-n-at : goal.shape_of-memory-then-n-at
@@ -51,7 +53,8 @@ returns-then-n-at c =
 -- a row that leaves samples over
 pub chain-c-requires-in-loop-t : goal.chain-c-requires-in-loop-t
 chain-c-requires-in-loop-t c =
-    chain_asks _ _ _ _ _ _ c.requires c.loop-t.invariant.3 c.front-f.result refl refl c.front-f.ensures.kept
+    let b = chain_asks _ _ _ _ _ _ c.requires c.loop-t.invariant.3 c.front-f.result refl refl c.front-f.ensures.kept in
+    record { given = b.0; made_bound = b.1 }
 
 pub loop-t-smaller : goal.loop-t-smaller
 loop-t-smaller c =
