@@ -3,12 +3,12 @@ use Rattle.std.specs.Prelude.{◌≡◌, true, ◌&&◌, List, ℕ, ◌*◌, ◌
 use Rattle.std.proofs.Common.{leb-true, le-leb}
 use Rattle.laws.specs.Branches.{and_true}
 use Rattle.front.specs.Admitted as Front
-use Rattle.front.proofs.AdmittedLaws as FrontLaws
+use Rattle.front.specs.AdmittedLaws as FrontLaws
 use Rattle.peak.specs.Peak as Peak
 use Rattle.peak.proofs.Laws as PeakLaws
 use Rattle.clock.specs.Clock as Clock
 use Rattle.clock.specs.Ranges as ClockRanges
-use Rattle.clock.proofs.AdmittedLaws as ClockLaws
+use Rattle.clock.specs.AdmittedLaws as ClockLaws
 use Rattle.carrier.specs.Carrier as Carrier
 use Rattle.carrier.specs.Ranges as CarrierRanges
 use Rattle.carrier.specs.AdmittedLaws as CarrierLaws

@@ -22,7 +22,7 @@ use Rattle.clock.specs.declared.Stepped.{Stepped}
 use Rattle.clock.specs.Clock.{fresh_place, thirty_two, minus16, f48, turning_of, drop_one, dropped_of, negative, at_least0, first_of, waiting_of, timed_warm_of, taken_of, warmed_of, timed_of, windows_of, Ticked, ticked_of, ClockStep, with_windows, stepped_of, tenth, minus_tenth, Moving, move_turn, moved_of, updated_of}
 use Rattle.clock.specs.Ranges.{PhaseFits, PhaseTurned, ErrorFits, Admitted, Taken, After}
 use Rattle.clock.proofs.Ranged.{Same, Found, found}
-use Rattle.clock.proofs.UpdateLaws.{moved_fits}
+use Rattle.clock.specs.Update.{moved_fits}
 
 -- ---- `while position > 12`
 abbrev placed : Float → Float → ℕ → ℕ → ℕ → ClockPlace

@@ -1,5 +1,2 @@
-pub mod AdmittedLaws
-pub mod Floor
 pub mod Laws
 pub mod Ranged
-pub mod UpdateLaws

@@ -14,7 +14,7 @@ use Rattle.laws.specs.FloatSums.{In, in_finite, add_in, sub_in, in_wider}
 use Rattle.clock.specs.declared.phase.Arm.{Arm}
 use Rattle.clock.specs.Clock.{arm_number_of, Turning, sixteen, thirty_two, minus16, f48, too_high, negative, lowered, raised, lowered_of, raised_of, turning_of, ranged_of}
 use Rattle.clock.specs.Ranges.{PhaseFits, PhaseTurned, Ceiling}
-use Rattle.clock.proofs.Floor.{arm_nan, High, high_from, middle_from, minus_zero, ceiling_up, ceiling_not}
+use Rattle.clock.specs.Floor.{arm_nan, High, high_from, middle_from, minus_zero, ceiling_up, ceiling_not}
 
 -- ---- the loops, by the arm
 abbrev at : Float → ℤ → ℤ → Turning

@@ -5,7 +5,7 @@ use Rattle.std.proofs.Common.{add-one, arith, sym, ap, ap₂, ◌∙◌, drop-dr
 use Rattle.std.proofs.Math.IntN.{+ℤ_assoc, +ℤ_comm, +ℤ_idr}
 use Rattle.std.proofs.Math.Seq.{drop-nil}
 use Rattle.decimator.specs.Demand.{sum_n, sum_z, one_if, weight, weighted}
-use Rattle.decimator.proofs.FiniteSums.{sum_ext, sum_zero, sum_add, sum_swap, mul_sum, sum_pick}
+use Rattle.decimator.specs.FiniteSums.{sum_ext, sum_zero, sum_add, sum_swap, mul_sum, sum_pick}
 
 -- the newest sample
 unfoldable pub newest : List ℤ → ℤ

@@ -1,9 +1,6 @@
 pub mod AdmittedLaws
 pub mod Boxes
-pub mod Cases
-pub mod FiniteSums
 pub mod Part
-pub mod Past
 pub mod Residues
 pub mod Rows
 pub mod Steps

@@ -14,7 +14,7 @@ use Rattle.decimator.specs.declared.RawOutput.TheVariants.{Silent, Sum}
 use Rattle.decimator.specs.Decimator.{absorbed_of, silent_of, sounded_of, advanced_of, raw_outputs_of}
 use Rattle.decimator.specs.Demand.{weighted, wrapped, no_counts}
 use Rattle.decimator.proofs.Boxes.{weighted_same}
-use Rattle.decimator.proofs.Past.{past}
+use Rattle.decimator.specs.Past.{past}
 use Rattle.decimator.proofs.Part.{PartHolds, kept_silent, kept_sounded, sounded_value}
 
 -- ---- both parts

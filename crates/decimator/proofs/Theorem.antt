@@ -15,7 +15,7 @@ use Rattle.decimator.specs.Decimator.{fresh_of, advanced_of, raw_outputs_of}
 use Rattle.decimator.specs.Demand.{sum_z, weighted, wrapped, no_counts, ago, sums_at, demanded, demanded_row}
 use Rattle.decimator.proofs.Boxes.{triple, weighted_is, weighted_same}
 use Rattle.decimator.proofs.Residues.{nat_abs_add, wrapped_id}
-use Rattle.decimator.proofs.Past.{past, past_at, past_before}
+use Rattle.decimator.specs.Past.{past, past_at, past_before}
 use Rattle.decimator.proofs.Part.{kept_fresh, Words, oldest, middle, latest, kept_any}
 use Rattle.decimator.proofs.Rows.{Holds, said, expected, raw_output_at}
 

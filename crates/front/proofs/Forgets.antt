@@ -30,7 +30,7 @@ use Rattle.decimator.proofs.Theorem.{recovers}
 use Rattle.decimator.proofs.Values.{step_above, step_through, step_counting, outputs_above}
 use Rattle.front.specs.Resample.{ResamplerState, resample_state, resample_values}
 use Rattle.resampler.specs.Pass.{resampled_of}
-use Rattle.front.proofs.FiltersForget.{Like, like_other, like_more, values_same}
+use Rattle.front.specs.FiltersForget.{Like, like_other, like_more, values_same}
 use Rattle.front.specs.Front.{sample_at, Rung, Run, ring_of, front_step, more, front_of, rung_at, made_of, reach_of}
 use Rattle.front.specs.Admitted.{Admitted}
 

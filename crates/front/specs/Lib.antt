@@ -2,3 +2,10 @@ pub mod Resample
 pub mod Front
 pub mod Admitted
 pub mod Lends
+pub mod AdmittedLaws
+pub mod Draws
+pub mod FiltersForget
+pub mod Laws
+pub mod Rows
+pub mod Runs
+pub mod Steps

@@ -15,7 +15,7 @@ use Rattle.resampler.specs.declared.dimensions.Dimensions.{Dimensions}
 use Rattle.resampler.specs.Dimensions as resampler
 use Rattle.sequence.specs.Sequence as sequence
 use Rattle.front.specs.Front as front
-use Rattle.front.proofs.Steps as steps
+use Rattle.front.specs.Steps as steps
 use Rattle.oscillator.specs.Oscillator.{conjugated_of}
 use Rattle.taps.specs.Taps.{both_tables}
 use Rattle.second.specs.Parts.{split_join, memory_sized, costs_sized}

@@ -32,7 +32,7 @@ use Rattle.decimator.proofs.Values.{fresh_counting, outputs_above, outputs_throu
 use Rattle.resampler.specs.Dimensions.{decimation_of, decimated_of, arm_length_of, sized_of}
 use Rattle.front.specs.Resample.{resample_state, resample_values}
 use Rattle.resampler.specs.Admitted.{Sized}
-use Rattle.resampler.proofs.Ranges.{sized_in}
+use Rattle.resampler.specs.Ranges.{sized_in}
 use Rattle.front.specs.Front as front
 use Rattle.taps.specs.Taps.{both_tables}
 use Rattle.answers.specs.declared.soft.Slot.{Slot}

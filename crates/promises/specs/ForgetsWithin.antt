@@ -19,7 +19,7 @@ use Rattle.decimator.specs.Demand.{no_counts, ago, wrapped}
 use Rattle.decimator.proofs.Boxes.{weighted_same}
 use Rattle.decimator.proofs.Theorem.{wrapped_sums}
 use Rattle.decimator.proofs.Values.{outputs_through}
-use Rattle.front.proofs.FiltersForget.{Like}
+use Rattle.front.specs.FiltersForget.{Like}
 use Rattle.resampler.specs.Dimensions.{sized_of}
 use Rattle.front.specs.Front as front
 use Rattle.oscillator.specs.Oscillator.{conjugated_of}

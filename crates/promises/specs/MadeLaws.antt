@@ -23,8 +23,8 @@ use Rattle.decimator.specs.Decimator.{Counting}
 use Rattle.decimator.proofs.Values.{step_above, step_through, step_counting, outputs_length}
 use Rattle.front.specs.Resample.{ResamplerState, resample_state, resample_values}
 use Rattle.resampler.specs.Pass.{pushed_of, resampled_of}
-use Rattle.resampler.proofs.Forgets.{next_same}
-use Rattle.front.proofs.FiltersForget.{Like, like_other, like_more, values_same}
+use Rattle.resampler.specs.Forgets.{next_same}
+use Rattle.front.specs.FiltersForget.{Like, like_other, like_more, values_same}
 use Rattle.front.specs.Front as front
 use Rattle.oscillator.specs.Oscillator.{conjugated_of}
 use Rattle.receiver_state.specs.declared.state.Receiver.{Receiver}

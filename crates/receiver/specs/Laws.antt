@@ -5,7 +5,7 @@ use Rattle.std.proofs.lemmas.Bool.{false≢true}
 use Rattle.std.proofs.lemmas.List.{get_or-replicate}
 use Rattle.resampler.specs.declared.dimensions.Dimensions.{Dimensions}
 use Rattle.resampler.specs.Admitted.{Sized}
-use Rattle.resampler.proofs.Ranges.{sized_in, fresh_admitted as fresh_ready}
+use Rattle.resampler.specs.Ranges.{sized_in, fresh_admitted as fresh_ready}
 use Rattle.resampler.specs.Dimensions as resampler
 use Rattle.resampler.specs.Dimensions.{sized_of}
 use Rattle.decimator.specs.Decimator as decimator

@@ -22,7 +22,7 @@ use Rattle.clock.specs.declared.Due.TheVariants.{NoSymbol, Symbol}
 use Rattle.clock.specs.Clock as Clock
 use Rattle.clock.specs.Ranges.{ErrorFits, After}
 use Rattle.clock.proofs.Laws.{after_of, stepped_place, update_kept}
-use Rattle.clock.proofs.AdmittedLaws as ClockLaws
+use Rattle.clock.specs.AdmittedLaws as ClockLaws
 use Rattle.taps.specs.declared.Tables.{Tables}
 use Rattle.taps.specs.Taps.{both_tables}
 use Rattle.equalizer.specs.Equalizer as Equalizer

@@ -28,7 +28,7 @@ use Rattle.resampler.specs.Pass.{placed_of, waiting_of, window_of, arm_at, sum_t
 use Rattle.resampler.specs.Outputs.{tick, position, phase, no_minus}
 use Rattle.resampler.specs.Ticks.{minus_zero, placed_is, whole_cut, whole_most}
 use Rattle.resampler.proofs.Window.{window_at}
-use Rattle.resampler.proofs.Latest.{due_now, window_start}
+use Rattle.resampler.specs.Latest.{due_now, window_start}
 use Rattle.resampler.specs.Admitted.{f0, far, back, Admitted, Dimensioned}
 use Rattle.resampler.specs.AdmittedLaws.{Passing, Going, going_start, going_turned, outcome, no_third, due_few, admitted_passing, pushed_dimensioned}
 use Rattle.resampler.specs.RustPass.{Spot, spot_from, spot_of, offset_of, Summing, tapped, summed_of, Loop, is_beyond, returns, loop_turn, loop_of, Processed, processed_of}

@@ -8,3 +8,9 @@ pub mod AdmittedLaws
 pub mod Outputs
 pub mod Ticks
 pub mod RustPass
+pub mod Cases
+pub mod Forgets
+pub mod Latest
+pub mod Ranges
+pub mod Scaled
+pub mod Taps

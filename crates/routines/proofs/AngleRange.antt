@@ -16,7 +16,7 @@ use Rattle.numbers.proofs.Faithful.{keeps_over}
 use Rattle.routines.specs.Circle.{one, under, with_sign}
 use Rattle.routines.specs.Angle.{nought, quarter_pi, half_pi, pi, factor_of, arc_of, quadrant_arc, mirrored_of, arc_size, arctangent_of, A1, A2, A3, A4, A5, A6, A7, A8, A9, A10, A11, A12}
 use Rattle.laws.specs.FloatSizes.{nonneg_finite}
-use Rattle.routines.proofs.Squares.{nonneg_signed, convert_up}
+use Rattle.routines.specs.Squares.{nonneg_signed, convert_up}
 use Rattle.routines.proofs.AngleLaws.{plus_zero, pi32, div_is, zero_least, zero_equal}
 
 -- ---- in 0..b, and with its sign clear

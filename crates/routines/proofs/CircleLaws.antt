@@ -12,7 +12,7 @@ use Rattle.laws.specs.FloatSums.{In}
 use Rattle.numbers.specs.Numbers.{abs_of, sign_of, clamp_of}
 use Rattle.numbers.specs.Clamped.{clamp_in}
 use Rattle.routines.specs.Circle.{one, minus_one, farthest, in_reach, turned_sine, turned_cosine, reduced_of, size_sine, size_cosine, with_sign, sine_of, cosine_of, pair_of}
-use Rattle.routines.proofs.Reached.{sine_number, cosine_number}
+use Rattle.routines.specs.Reached.{sine_number, cosine_number}
 
 -- ---- signs
 pub abs_neg : (x : Float) → abs_of (neg x) ≡ abs_of x

@@ -3,8 +3,3 @@ pub mod AngleLaws
 pub mod AngleRange
 pub mod CircleCode
 pub mod CircleLaws
-pub mod Enclosed
-pub mod HypotenuseCode
-pub mod HypotenuseLaws
-pub mod Reached
-pub mod Squares

@@ -6,7 +6,7 @@ use native.Mathlib.Omega.{arith}
 use Rattle.std.proofs.Math.ListN.{length, length-append}
 use Rattle.laws.specs.Turns.{turns}
 use Rattle.front.specs.Front as front
-use Rattle.front.proofs.Steps.{values_two}
+use Rattle.front.specs.Steps.{values_two}
 use Rattle.chain.specs.Ranges.{Ranged}
 use Rattle.chain.specs.RowLaws.{chain_left}
 use Rattle.run.specs.Run.{Whole, front_at, whole_run_of}

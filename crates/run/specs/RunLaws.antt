@@ -10,8 +10,8 @@ use Rattle.front.specs.declared.Fronted.{Fronted}
 use Rattle.front.specs.declared.FrontPlace.{FrontPlace}
 use Rattle.front.specs.Front as front
 use Rattle.front.specs.Admitted as fit
-use Rattle.front.proofs.Draws.{next_none, next_on}
-use Rattle.front.proofs.Rows.{Filled, filled}
+use Rattle.front.specs.Draws.{next_none, next_on}
+use Rattle.front.specs.Rows.{Filled, filled}
 use Rattle.chain.specs.Rows.{Lent, values_of, chain_of}
 use Rattle.chain.specs.Ranges.{Roomy, Asks}
 use Rattle.chain.specs.RowLaws.{Left, chain_none, rows}

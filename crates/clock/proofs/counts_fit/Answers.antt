@@ -1,5 +1,5 @@
 -- `clock::counts_fit` meets its contract: the three ways (warm and in range, warm and beyond it, cold) are the definition's.
-use Rattle.clock.proofs.AdmittedLaws.{counts_warm, counts_beyond, counts_cold}
+use Rattle.clock.specs.AdmittedLaws.{counts_warm, counts_beyond, counts_cold}
 use Rattle.std.proofs.Common.{rules}
 use Rattle.clock.proofs.counts_fit.Goals as goal
 

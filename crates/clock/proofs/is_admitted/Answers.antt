@@ -1,6 +1,6 @@
 -- `clock::is_admitted` meets its contract: its tests, put together with what `counts_fit` answers, are the definition's.
 use lib.Ieee.{of_bits, neg}
-use Rattle.clock.proofs.AdmittedLaws.{admitted_is}
+use Rattle.clock.specs.AdmittedLaws.{admitted_is}
 use Rattle.clock.proofs.is_admitted.Goals as goal
 
 pub returns : goal.returns

@@ -1,5 +1,5 @@
 -- `advance` meets its contract: a run, and what its last sample gave into the ring and the row, is its samples taken one by one.
-use Rattle.front.proofs.Draws.{advance_is, filled_on, moved_is, left_some}
+use Rattle.front.specs.Draws.{advance_is, filled_on, moved_is, left_some}
 use native.Mathlib.Omega.{arith}
 use Rattle.front.proofs.advance.Goals as goal
 

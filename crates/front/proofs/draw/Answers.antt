@@ -1,5 +1,5 @@
 -- `draw` meets its contract: each of the two ways draws the run of the definition, and a run keeps the ranges.
-use Rattle.front.proofs.Runs.{drew_is}
+use Rattle.front.specs.Runs.{drew_is}
 use Rattle.front.proofs.draw.Goals as goal
 
 pub returns-then-d-gt1 : goal.returns-then-d-gt1

@@ -1,7 +1,7 @@
 -- `front` meets its contract: at each turn what is left to fill is what was to be filled, and it ends with the samples or with the row.
 use native.Mathlib.Omega.{arith}
 use mathlib.Core.Path.{refl, ◌∙◌}
-use Rattle.front.proofs.Draws.{filled_end, filled_full, kept_start, kept_on, advance_asks, kept_end, kept_full}
+use Rattle.front.specs.Draws.{filled_end, filled_full, kept_start, kept_on, advance_asks, kept_end, kept_full}
 use Rattle.front.proofs.front.Goals as goal
 
 pub loop-t-init : goal.loop-t-init

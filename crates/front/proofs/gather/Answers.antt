@@ -4,7 +4,7 @@ use native.Mathlib.Omega.{arith}
 use mathlib.Core.Path.{◌∙◌}
 use Rattle.laws.specs.Turns.{turns_start, turns_step, turns_end}
 use Rattle.front.specs.Front.{gather_of}
-use Rattle.front.proofs.Runs.{number_at}
+use Rattle.front.specs.Runs.{number_at}
 use Rattle.front.proofs.gather.Goals as goal
 
 pub loop-i-init : goal.loop-i-init

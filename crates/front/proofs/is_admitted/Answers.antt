@@ -1,5 +1,5 @@
 -- `is_admitted` meets its contract: the three tests of oscillator, decimator and resampler, all of them.
-use Rattle.front.proofs.AdmittedLaws.{admitted_is}
+use Rattle.front.specs.AdmittedLaws.{admitted_is}
 use Rattle.front.proofs.is_admitted.Goals as goal
 
 pub returns : goal.returns

@@ -1,6 +1,6 @@
 -- `laid` meets its contract: none, one or two values stand in the row from its next place on.
 use borrow.Author.Rules.{rules}
-use Rattle.front.proofs.Laws.{laid_none, laid_one, laid_two}
+use Rattle.front.specs.Laws.{laid_none, laid_one, laid_two}
 use Rattle.front.proofs.laid.Goals as goal
 
 pub returns-then-p-eq0 : goal.returns-then-p-eq0

@@ -1,6 +1,6 @@
 -- `offered` meets its contract: nothing is stored where nothing came; else the value goes into the ring and what it makes due into the row.
 use mathlib.Core.Path.{refl}
-use Rattle.front.proofs.Laws.{offered_none, offered_some, offer_none, offer_some}
+use Rattle.front.specs.Laws.{offered_none, offered_some, offer_none, offer_some}
 use Rattle.front.proofs.offered.Goals as goal
 
 pub returns-in-Nothing : goal.returns-in-Nothing

@@ -1,5 +1,5 @@
 -- `several` meets its contract: a run that ends before the d-th sample waits, and one that ends at it gives the value of the combs.
-use Rattle.front.proofs.Runs.{waits_is, whole_is}
+use Rattle.front.specs.Runs.{waits_is, whole_is}
 use Rattle.front.proofs.several.Goals as goal
 
 pub returns-then-run-needed : goal.returns-then-run-needed

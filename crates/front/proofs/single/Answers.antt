@@ -2,7 +2,7 @@
 use native.Mathlib.Omega.{arith}
 use mathlib.Core.Path.{ap}
 use Rattle.oscillator.specs.declared.Step.{Step}
-use Rattle.front.proofs.Runs.{number_at, single_is}
+use Rattle.front.specs.Runs.{number_at, single_is}
 use borrow.Author.Rules.{rules}
 use Rattle.front.proofs.single.Goals as goal
 

@@ -4,7 +4,7 @@ use lib.ListN.{length}
 use Rattle.laws.specs.Places.{length_upto}
 use Rattle.sequence.specs.Sequence.{fresh_real}
 use borrow.Author.Tests.{not-false}
-use Rattle.clock.proofs.AdmittedLaws.{admitted_facts}
+use Rattle.clock.specs.AdmittedLaws.{admitted_facts}
 use Rattle.replay_chain.proofs.answer.Goals as goal
 
 pub run-requires : goal.run-requires

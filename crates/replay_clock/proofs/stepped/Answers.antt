@@ -1,6 +1,6 @@
 -- `replay_clock::stepped` is safe: the place is admitted.
 use mathlib.Core.Path.{sym, ◌∙◌}
-use Rattle.clock.proofs.AdmittedLaws.{admitted_facts}
+use Rattle.clock.specs.AdmittedLaws.{admitted_facts}
 use borrow.Author.Rules.{rules}
 use Rattle.replay_clock.proofs.stepped.Goals as goal
 

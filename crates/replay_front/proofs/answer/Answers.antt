@@ -1,6 +1,6 @@
 -- `answer` is safe: samples go into an admitted front alone.
 use mathlib.Core.Path.{sym, ◌∙◌}
-use Rattle.front.proofs.AdmittedLaws.{admitted_facts}
+use Rattle.front.specs.AdmittedLaws.{admitted_facts}
 use Rattle.replay_front.proofs.answer.Goals as goal
 
 pub run-h-requires : goal.run-h-requires

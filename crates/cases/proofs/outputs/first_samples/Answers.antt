@@ -2,7 +2,7 @@
 use lib.Ieee.{of_bits, le}
 use Rattle.std.proofs.Common.{refl}
 use Rattle.resampler.specs.Dimensions.{fresh_of}
-use Rattle.resampler.proofs.Ranges.{fresh_admitted}
+use Rattle.resampler.specs.Ranges.{fresh_admitted}
 use Rattle.cases.proofs.outputs.first_samples.Goals as goal
 
 pub sized-dimensions-requires : goal.sized-dimensions-requires

@@ -1,6 +1,6 @@
 -- `clock::phase::ceiling` meets its contract: it is the truncated number, or one more where that lies below x.
 use Rattle.std.proofs.Common.{arith}
-use Rattle.clock.proofs.Floor.{whole_most, ceiling_up, ceiling_not}
+use Rattle.clock.specs.Floor.{whole_most, ceiling_up, ceiling_not}
 use Rattle.clock.proofs.Ranged.{truncates, within48}
 use Rattle.clock.proofs.phase.ceiling.Goals as goal
 

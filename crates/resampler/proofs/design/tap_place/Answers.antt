@@ -1,6 +1,6 @@
 -- `tap_place` meets its contract: a tap of the first 32 c stands within them.
 use Rattle.std.proofs.Common.{◌%◌, refl, mod-lt, arith, lit<}
-use Rattle.resampler.proofs.Taps.{place_in}
+use Rattle.resampler.specs.Taps.{place_in}
 use Rattle.resampler.proofs.Window.{base_small}
 use Rattle.resampler.proofs.design.tap_place.Goals as goal
 

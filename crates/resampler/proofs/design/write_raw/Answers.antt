@@ -1,7 +1,7 @@
 -- `write_raw` meets its contract: each turn writes a tap at its place and adds it, and the last tap is added alone.
 use Rattle.std.proofs.Common.{refl, ◌∙◌, length-set, rules}
-use Rattle.resampler.proofs.Taps.{both_next}
-use Rattle.resampler.proofs.Taps.{raw_from_lem}
+use Rattle.resampler.specs.Taps.{both_next}
+use Rattle.resampler.specs.Taps.{raw_from_lem}
 use Rattle.laws.specs.Turns.{turns_start}
 use Rattle.resampler.proofs.design.write_raw.Goals as goal
 

@@ -1,6 +1,6 @@
 -- `write_table` meets its contract: the raw taps, divided by their sum, are the table of the rate.
 use Rattle.std.proofs.Common.{refl}
-use Rattle.resampler.proofs.Taps.{table_written}
+use Rattle.resampler.specs.Taps.{table_written}
 use Rattle.resampler.specs.Design.{omega_of}
 use Rattle.resampler.proofs.design.write_table.Goals as goal
 

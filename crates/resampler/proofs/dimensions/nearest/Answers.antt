@@ -1,6 +1,6 @@
 -- `nearest` meets its contract: from 0 to 1,024 the rounded number is a whole one that the cast keeps.
 use Rattle.std.proofs.Common.{rules}
-use Rattle.resampler.proofs.Ranges.{whole_asks}
+use Rattle.resampler.specs.Ranges.{whole_asks}
 use Rattle.resampler.proofs.dimensions.nearest.Goals as goal
 
 pub truncating_f64_to_u64-requires : goal.truncating_f64_to_u64-requires

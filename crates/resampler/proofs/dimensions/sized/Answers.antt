@@ -1,7 +1,7 @@
 -- `sized` meets its contract: each of its roundings is of 0 to 1,024, and an admitted rate gives dimensions in range.
 use Rattle.std.proofs.Common.{sym, subst}
 use Rattle.resampler.specs.Admitted.{Sized}
-use Rattle.resampler.proofs.Ranges.{sized_in, decimated_in, quotient_countable, product_countable, decimated_code, sized_code}
+use Rattle.resampler.specs.Ranges.{sized_in, decimated_in, quotient_countable, product_countable, decimated_code, sized_code}
 use Rattle.resampler.specs.Dimensions.{decimated_of}
 use Rattle.resampler.proofs.dimensions.sized.Goals as goal
 

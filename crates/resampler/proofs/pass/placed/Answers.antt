@@ -1,7 +1,7 @@
 -- `placed` meets its contract: 64 x is exact, and half its whole part, rounded up, is 32 x rounded half away.
 use Rattle.std.proofs.Common.{T, rules}
 use lib.Ieee.{binary64, of_bits, fits}
-use Rattle.resampler.proofs.Scaled.{above_minus_one, below_2_64, placed_code, placed_near}
+use Rattle.resampler.specs.Scaled.{above_minus_one, below_2_64, placed_code, placed_near}
 use Rattle.resampler.proofs.pass.placed.Goals as goal
 
 pub truncating_f64_to_u64-h-requires : goal.truncating_f64_to_u64-h-requires

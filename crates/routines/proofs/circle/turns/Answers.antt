@@ -1,5 +1,5 @@
 -- `circle::turns` meets its contract: the product is in range, so that the cast is the definition's.
-use Rattle.routines.proofs.Reached.{turns_asks}
+use Rattle.routines.specs.Reached.{turns_asks}
 use Rattle.routines.specs.Circle.{turns_of}
 use Rattle.routines.proofs.circle.turns.Goals as goal
 

@@ -1,5 +1,5 @@
 -- `hypotenuse::hypotenuse` meets its contract: an infinity of either wins, and else the root of the squares.
-use Rattle.routines.proofs.HypotenuseCode.{wins_first, wins_second, wins_none}
+use Rattle.routines.specs.HypotenuseCode.{wins_first, wins_second, wins_none}
 use lib.Ieee.{of_bits, div}
 use Rattle.std.proofs.Common.{sym, ◌∙◌}
 use Rattle.routines.proofs.hypotenuse.hypotenuse.Goals as goal

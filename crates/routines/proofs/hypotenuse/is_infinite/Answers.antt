@@ -1,5 +1,5 @@
 -- `hypotenuse::is_infinite` meets its contract: equal to one of the two infinities.
-use Rattle.routines.proofs.HypotenuseCode.{infinite_up, infinite_down}
+use Rattle.routines.specs.HypotenuseCode.{infinite_up, infinite_down}
 use lib.Ieee.{of_bits, div, neg}
 use Rattle.routines.proofs.hypotenuse.is_infinite.Goals as goal
 

@@ -1,6 +1,6 @@
 -- `hypotenuse::narrow_root` meets its contract: a guess that encloses the root and narrows to one value, and else the root itself, narrowed.
-use Rattle.routines.proofs.HypotenuseCode.{root_of_nan}
-use Rattle.routines.proofs.Enclosed.{enclosed}
+use Rattle.routines.specs.HypotenuseCode.{root_of_nan}
+use Rattle.routines.specs.Enclosed.{enclosed}
 use Rattle.numbers.specs.Laws.{no_nan}
 use Rattle.numbers.specs.Numbers.{convert}
 use lib.Ieee.Fits.{mul-fits}

@@ -1,5 +1,5 @@
 -- `hypotenuse::root_of_squares` meets its contract: squares and sum at the wider format, and the narrowed root of it.
-use Rattle.routines.proofs.HypotenuseCode.{squares_made}
+use Rattle.routines.specs.HypotenuseCode.{squares_made}
 use Rattle.routines.proofs.hypotenuse.root_of_squares.Goals as goal
 
 pub returns : goal.returns

@@ -15,8 +15,8 @@ use Rattle.front.specs.declared.Fronted.{Fronted}
 use Rattle.front.specs.declared.Offering.{Offering}
 use Rattle.front.specs.Front.{front_step, ring_of, rung_of, Front, laid_of, took_of, is_full, filled_of, front_now, start_of, run_of, drawn_of, Offered, offered_of, offered_now, advanced_with, advanced_of}
 use Rattle.front.specs.Admitted.{Admitted, Numbers, Next, Drew, Offer, Moved, Going, CallKeeps}
-use Rattle.front.proofs.Runs.{drew, run_is, quiet, drawn_kept}
-use Rattle.front.proofs.Laws.{offered_none}
+use Rattle.front.specs.Runs.{drew, run_is, quiet, drawn_kept}
+use Rattle.front.specs.Laws.{offered_none}
 
 module _ (conjugated : Bool) (table xs : List Float) where
   abbrev pub took : Front → Front

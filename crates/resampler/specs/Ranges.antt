@@ -32,7 +32,7 @@ use Rattle.numbers.specs.Numbers.{sign_of, min_of}
 use Rattle.whole.specs.Whole.{whole_of, away}
 use Rattle.resampler.specs.Outputs.{no_minus}
 use Rattle.resampler.specs.Ticks.{nearest_at, minus_zero}
-use Rattle.resampler.proofs.Scaled.{→lt}
+use Rattle.resampler.specs.Scaled.{→lt}
 use Rattle.resampler.specs.AdmittedLaws.{whole_le, whole_from_zero}
 use Rattle.resampler.specs.Admitted.{f0, half, twenty, AdmittedRate, Countable, Sized, Admitted}
 

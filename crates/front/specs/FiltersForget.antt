@@ -19,7 +19,7 @@ use Rattle.resampler.specs.declared.dimensions.Dimensions.{Dimensions}
 use Rattle.resampler.specs.Dimensions.{fresh_of}
 use Rattle.resampler.specs.Admitted.{Sized}
 use Rattle.resampler.specs.Pass.{delivered_of, pushed_of, passed_of, resampled_of, values_of}
-use Rattle.resampler.proofs.Forgets.{delivered_same, next_same, Planes, planes_other, planes_more}
+use Rattle.resampler.specs.Forgets.{delivered_same, next_same, Planes, planes_other, planes_more}
 use Rattle.front.specs.Resample.{ResamplerState, resample_state, resample_values, resample_row, filters_row}
 
 -- ---- two resamplers, alike but for what came before the latest k values

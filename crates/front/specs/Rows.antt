@@ -14,7 +14,7 @@ use Rattle.laws.specs.Turns.{turns, until, turns_step}
 use Rattle.laws.specs.Places.{upto}
 use Rattle.complex.specs.declared.Complex32.{Complex32}
 use Rattle.front.specs.Front.{sample_at, Run, front_step, more, front_turn, front_of, real_of, imaginary_of, laid_of, Front, took_of, is_full, filled_of, rowed}
-use Rattle.front.proofs.Steps.{values_two}
+use Rattle.front.specs.Steps.{values_two}
 
 -- ---- a row read as a list
 rowed_set : (xs ys : List Float) (i n : ℕ) (a b : Float) → n ≤ i → rowed (set xs i a) (set ys i b) n ≡ rowed xs ys n

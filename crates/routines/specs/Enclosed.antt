@@ -16,7 +16,7 @@ use Rattle.numbers.specs.Root.{round_root, sqrt_of}
 use Rattle.numbers.specs.RootOrder.{root_above, root_below}
 use Rattle.numbers.proofs.Faithful.{sqrt_is}
 use Rattle.routines.specs.Hypotenuse.{encloses_of}
-use Rattle.routines.proofs.Squares.{square_is, not_under, convert_up, convert_fits, sqrt_up}
+use Rattle.routines.specs.Squares.{square_is, not_under, convert_up, convert_fits, sqrt_up}
 
 -- ---- narrowing keeps the order, infinities included
 inf_most : (z : Float) → T (signed false z) → T (le z (inf false))

@@ -21,7 +21,7 @@ use Rattle.numbers.specs.Nearest.{Value}
 use Rattle.numbers.specs.Root.{sqrt_of}
 use Rattle.numbers.proofs.Faithful.{root_under, root_over}
 use Rattle.routines.specs.Hypotenuse.{infinite, root_of_squares, hypotenuse_of, squares_over, squares_under, Between}
-use Rattle.routines.proofs.Squares.{square_is, nonneg_of, not_under, convert_up, convert_fits, sqrt_up}
+use Rattle.routines.specs.Squares.{square_is, nonneg_of, not_under, convert_up, convert_fits, sqrt_up}
 
 -- ---- the square of a value of binary32 is a value of binary64
 poly : (a b d u P R : ℕ) → a * P ≡ d * u * b → a * a * (P * P * R) ≡ d * d * (u * u * R) * (b * b)

@@ -8,7 +8,7 @@ use Rattle.laws.specs.FloatPack.{no_nan_bits}
 use Rattle.numbers.specs.Numbers.{convert}
 use Rattle.numbers.specs.Root.{sqrt_of}
 use Rattle.routines.specs.Hypotenuse.{infinite, root_of_squares, hypotenuse_of}
-use Rattle.routines.proofs.HypotenuseLaws.{or_true, root_nan}
+use Rattle.routines.specs.HypotenuseLaws.{or_true, root_nan}
 
 pub infinite_up : (x : Float) → eq x (inf false) ≡ true → true ≡ infinite x
 unfolding eq infinite

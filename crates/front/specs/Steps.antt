@@ -17,7 +17,7 @@ use Rattle.resampler.specs.declared.dimensions.Dimensions.{Dimensions}
 use Rattle.resampler.specs.declared.pass.Resampler.{Resampler}
 use Rattle.resampler.specs.Dimensions.{fresh_of}
 use Rattle.resampler.specs.Admitted.{Sized}
-use Rattle.resampler.proofs.Ranges.{fresh_admitted as ring_admitted}
+use Rattle.resampler.specs.Ranges.{fresh_admitted as ring_admitted}
 use Rattle.oscillator.specs.Laws.{turned_admitted}
 use Rattle.oscillator.specs.Laws.{fresh_admitted as oscillator_admitted}
 use Rattle.decimator.specs.declared.Output.{Output}
@@ -32,8 +32,8 @@ use Rattle.resampler.specs.Admitted.{Admitted as RingAdmitted}
 use Rattle.front.specs.declared.FrontPlace.{FrontPlace}
 use Rattle.front.specs.Front.{sample_at, samples_of, Rung, Run, ring_of, step_of, front_step, more, front_over, front_turn, front_of}
 use Rattle.front.specs.Admitted.{Admitted, Next}
-use Rattle.front.proofs.Laws.{values_few}
-use Rattle.front.proofs.Draws.{next_none, next_on}
+use Rattle.front.specs.Laws.{values_few}
+use Rattle.front.specs.Draws.{next_none, next_on}
 
 -- an admitted front, its next output a float of its format
 pub record Sound (p : FrontPlace) : Type 0 where
