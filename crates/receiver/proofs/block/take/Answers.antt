@@ -1,5 +1,6 @@
 -- `take` meets its contract: where the second stream is enabled it is the call for either with no room for the other; else an accepted block is what `run`
 -- leaves of the planes taken out of the state, with the second's floats as they were, and a refused one hands every field back.
+use Prim.Native.Nat.{◌≤◌}
 use mathlib.Core.Path.{◌≡◌, refl, sym, ◌∙◌}
 use mathlib.Core.Bool.{true≢false}
 use native.Mathlib.Omega.{arith}
@@ -46,13 +47,6 @@ memory entry = search (rules, entry.well_formed.0.1.1.1.1.1.1.1.1.1.1.1.1.1.1.1.
 ancestors : (entry : Start) → length entry.args.r.ancestors ≡ 2048
 ancestors entry = search (rules, entry.well_formed.0.1.1.1.1.1.1.1.1.1.1.1.1.1.1.1.1.1.1.1.1.1.1)
 
--- and its profile is a number of 32 bits
-abbrev handed_in : goal.After-struct_told-1 → Start
-handed_in told = let entry = told.before.before.before.before.before.before.before.before.before.before.before.before.before.before.before.before.before.before.before.before.before.before.before.before.before.before.before.before.before.before in entry
-
-profile_fits : (told : goal.After-struct_told-1) → SFits w32 (handed_in told).args.r.chain.profile
-profile_fits told = search (rules, told.struct_told-1.given)
-
 -- the rooms that it is lent
 abbrev rooms : Start → Rooms
 rooms entry = one entry.args.dibits.now entry.args.reliabilities.now
@@ -67,14 +61,14 @@ pub shape_of-reliabilities-then-second : goal.shape_of-reliabilities-then-second
 shape_of-reliabilities-then-second c = c.reliabilities-1.given
 
 pub returns-then-second : goal.returns-then-second
-returns-then-second c = none_lent c.take_any-block.result _ _ _ _ _ _ c.others-then-second-1.given c.other_reliabilities-then-second-1.given c.take_any-block.ensures
+returns-then-second c =
+    let e = c.take_any-block.ensures in
+    let b = none_lent c.take_any-block.result _ _ _ _ _ (c.take_any-block.result.count ≤ length c.args.samples.now) c.others-then-second-1.given c.other_reliabilities-then-second-1.given (e.same, e.most) in
+    record { same = b.0; kept = e.kept; most = b.1 }
 
 pub run-t-requires : goal.run-t-requires
 run-t-requires c =
-    let test = c.before.before.before.before.before.before.before.before.before.before.before.before.before.before.before.before.before.before.before.before.before.before in
-    let checked = test.before.before in
-    let alone = checked.before.before.before.before.before.before.before.before.before.before.before.before.before.before.before.before.before.before.before.before.before in
-    let entry = alone.before.before.before.before.before.before in
+    let entry : Start = record { lifetimes = c.lifetimes; args = c.args; blocks = c.blocks; well_formed = c.well_formed; requires = c.requires } in
     let ready = take_asks c.args.r _ _ _ _ c.judged-c.result _ c.judged-c.ensures c.is_accepted.ensures c.if-is_accepted.true in
     run_asks c.args.r _ _ _ (rooms entry) ready (record { no_dibits = λ e. refl; no_reliabilities = λ e. refl }) (λ on. absurd (true≢false (sym on ∙ c.if-second.false))) (ancestors entry)
     (keeper_real entry) (keeper_imaginary entry) (channel_real entry) (channel_imaginary entry) (costs entry) (parents entry)
@@ -92,21 +86,16 @@ shape_of-reliabilities-then-is_accepted c = c.reliabilities-then-is_accepted-1.g
 
 pub returns-then-is_accepted : goal.returns-then-is_accepted
 returns-then-is_accepted c =
-    let out = c.before.before.before.before.before.before.before in
-    let ran = out.before.before.before.before.before.before.before in
-    let mixing = ran.before.before.before.before.before.before.before.before.before.before.before.before.before.before.before.before.before.before.before.before.before in
-    let test = mixing.before.before in
-    let checked = test.before.before in
-    let alone = checked.before.before.before.before.before.before.before.before.before.before.before.before.before.before.before.before.before.before.before.before.before in
-    let entry = alone.before.before.before.before.before.before in
-    let conjugated = rw (to_z-of_z (profile_fits mixing.before)) at c.is_conjugated.ensures in
+    let entry : Start = record { lifetimes = c.lifetimes; args = c.args; blocks = c.blocks; well_formed = c.well_formed; requires = c.requires } in
+    let fits : SFits w32 c.args.r.chain.profile = search (rules, c.struct_told-1.given) in
+    let conjugated = rw (to_z-of_z fits) at c.is_conjugated.ensures in
     let ended = ended_one c.args.r _ _ c.judged-c.result.overload (rooms entry) _ _ (whole_now c.run-t.result _ _ _ _ _ _ _ _ _ _ _ _ _ _ _ _ _ _ _ _) c.if-second.false (memory entry) conjugated c.run-t.ensures.0 in
-    taken_one c.args.r _ _ (rooms entry) c.judged-c.result _ c.judged-c.ensures c.is_accepted.ensures
-    _ _ (whole_now c.run-t.result _ _ _ _ _ _ _ _ _ _ _ _ _ _ _ _ _ _ _ _) _ _ c.if-is_accepted.true c.run-t.ensures.1 c.snapshot_of-snapshot.ensures ended c.others-then-is_accepted-2-1.given c.other_reliabilities-then-is_accepted-2-1.given
+    let b = taken_one c.args.r _ _ (rooms entry) c.judged-c.result _ c.judged-c.ensures c.is_accepted.ensures
+    _ _ (whole_now c.run-t.result _ _ _ _ _ _ _ _ _ _ _ _ _ _ _ _ _ _ _ _) _ _ c.if-is_accepted.true c.run-t.ensures.1 c.snapshot_of-snapshot.ensures ended c.others-then-is_accepted-2-1.given c.other_reliabilities-then-is_accepted-2-1.given in
+    record { same = b.0; kept = b.1.0; most = b.1.1 }
 
 pub returns : goal.returns
 returns c =
-    let test = c.before.before in
-    let checked = test.before.before in
-    let entry = checked.before.before.before.before.before.before.before.before.before.before.before.before.before.before.before.before.before.before.before.before.before.before.before.before.before.before.before in
-    take_refused c.args.r _ _ (rooms entry) c.judged-c.result _ c.judged-c.ensures c.is_accepted.ensures _ c.if-is_accepted.false c.refused.ensures
+    let entry : Start = record { lifetimes = c.lifetimes; args = c.args; blocks = c.blocks; well_formed = c.well_formed; requires = c.requires } in
+    let b = take_refused c.args.r _ _ (rooms entry) c.judged-c.result _ c.judged-c.ensures c.is_accepted.ensures _ c.if-is_accepted.false c.refused.ensures in
+    record { same = b.0; kept = b.1.0; most = b.1.1 }

@@ -4,7 +4,8 @@ use Rattle.receiver.proofs.reading.read.Goals as goal
 
 pub read-p-requires : goal.read-p-requires
 read-p-requires c =
-    view_ranges c.args.r _ c.is_admitted.ensures c.if-is_admitted.true
+    let b = view_ranges c.args.r _ c.is_admitted.ensures c.if-is_admitted.true in
+    record { head_bound = b.0; count_bound = b.1 }
 
 pub returns-then-is_admitted : goal.returns-then-is_admitted
 returns-then-is_admitted c =

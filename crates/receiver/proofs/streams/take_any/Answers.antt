@@ -45,33 +45,18 @@ memory entry = search (rules, entry.well_formed.0.1.1.1.1.1.1.1.1.1.1.1.1.1.1.1.
 ancestors : (entry : Start) → length entry.args.r.ancestors ≡ 2048
 ancestors entry = search (rules, entry.well_formed.0.1.1.1.1.1.1.1.1.1.1.1.1.1.1.1.1.1.1.1.1.1.1)
 
--- and its profile is a number of 32 bits
-abbrev handed_in : goal.After-struct_told-1 → Start
-handed_in told =
-    let checked = told.before.before.before in
-    let entry = checked.before.before.before.before.before.before.before.before.before.before.before.before.before.before.before.before.before.before.before.before.before.before.before.before.before.before.before.before.before.before.before in
-    entry
-
-profile_fits : (told : goal.After-struct_told-1) → SFits w32 (handed_in told).args.r.chain.profile
-profile_fits told = search (rules, told.struct_told-1.given)
-
 -- the rooms that it is lent
 abbrev rooms : Start → Rooms
 rooms entry = rooms_of entry.args.both entry.args.dibits.now entry.args.reliabilities.now entry.args.others.now entry.args.other_reliabilities.now
 
 pub slice_bounds-run-end : goal.slice_bounds-run-end
 slice_bounds-run-end c =
-    let mixing = c.before.before.before.before.before.before.before.before.before.before.before.before.before.before.before in
-    let checked = mixing.before.before.before.before in
-    let entry = checked.before.before.before.before.before.before.before.before.before.before.before.before.before.before.before.before.before.before.before.before.before.before.before.before.before.before.before.before.before.before.before in
+    let entry : Start = record { lifetimes = c.lifetimes; args = c.args; blocks = c.blocks; well_formed = c.well_formed; requires = c.requires } in
     sym (memory entry)
 
 pub run-t-requires : goal.run-t-requires
 run-t-requires c =
-    let test = c.before.before.before.before.before.before.before.before.before.before.before.before.before.before.before.before.before.before.before.before.before.before in
-    let checked = test.before.before in
-    let lengths = checked.before in
-    let entry = lengths.before.before.before.before.before.before.before.before.before.before.before.before.before.before.before.before.before.before.before.before.before.before.before.before.before.before.before.before.before.before in
+    let entry : Start = record { lifetimes = c.lifetimes; args = c.args; blocks = c.blocks; well_formed = c.well_formed; requires = c.requires } in
     let judged = judged_rooms c.args.r _ _ (rooms entry) c.judged-c.result _ _ c.room.ensures c.room-2.ensures c.judged-c.ensures in
     let ready = take_asks c.args.r _ _ _ _ c.judged-c.result _ judged c.is_accepted.ensures c.if-is_accepted.true in
     run_asks c.args.r _ _ _ (rooms entry) ready c.requires (λ on. memory entry) (ancestors entry) (keeper_real entry) (keeper_imaginary entry) (channel_real entry) (channel_imaginary entry) (costs entry) (parents entry)
@@ -95,22 +80,17 @@ shape_of-other_reliabilities-then-is_accepted c = c.other_reliabilities-1.given
 
 pub returns-then-is_accepted : goal.returns-then-is_accepted
 returns-then-is_accepted c =
-    let out = c.before.before.before.before.before.before.before.before.before.before.before.before.before.before in
-    let ran = out.before in
-    let mixing = ran.before.before.before.before.before.before.before.before.before.before.before.before.before.before.before.before.before.before.before.before.before in
-    let test = mixing.before.before in
-    let checked = test.before.before in
-    let lengths = checked.before in
-    let entry = lengths.before.before.before.before.before.before.before.before.before.before.before.before.before.before.before.before.before.before.before.before.before.before.before.before.before.before.before.before.before.before in
+    let entry : Start = record { lifetimes = c.lifetimes; args = c.args; blocks = c.blocks; well_formed = c.well_formed; requires = c.requires } in
     let judged = judged_rooms c.args.r _ _ (rooms entry) c.judged-c.result _ _ c.room.ensures c.room-2.ensures c.judged-c.ensures in
-    let conjugated = rw (to_z-of_z (profile_fits mixing.before)) at c.is_conjugated.ensures in
+    let fits : SFits w32 c.args.r.chain.profile = search (rules, c.struct_told-1.given) in
+    let conjugated = rw (to_z-of_z fits) at c.is_conjugated.ensures in
     let ended = ended_both c.args.r _ _ c.judged-c.result.overload (rooms entry) _ (whole_now c.run-t.result _ _ _ _ _ _ _ _ _ _ _ _ _ _ _ _ _ _ _ _) _ conjugated c.run-t.ensures.0 (split_join _ c.memory-then-is_accepted-2-1.given) in
-    taken_is c.args.r _ _ (rooms entry) c.judged-c.result _ judged c.is_accepted.ensures _ _ (whole_now c.run-t.result _ _ _ _ _ _ _ _ _ _ _ _ _ _ _ _ _ _ _ _) _ _ c.if-is_accepted.true c.run-t.ensures.1 c.snapshot_of-snapshot.ensures ended
+    let b = taken_is c.args.r _ _ (rooms entry) c.judged-c.result _ judged c.is_accepted.ensures _ _ (whole_now c.run-t.result _ _ _ _ _ _ _ _ _ _ _ _ _ _ _ _ _ _ _ _) _ _ c.if-is_accepted.true c.run-t.ensures.1 c.snapshot_of-snapshot.ensures ended in
+    record { same = b.0; kept = b.1.0; most = b.1.1 }
 
 pub returns : goal.returns
 returns c =
-    let checked = c.before.before.before in
-    let lengths = checked.before in
-    let entry = lengths.before.before.before.before.before.before.before.before.before.before.before.before.before.before.before.before.before.before.before.before.before.before.before.before.before.before.before.before.before.before in
+    let entry : Start = record { lifetimes = c.lifetimes; args = c.args; blocks = c.blocks; well_formed = c.well_formed; requires = c.requires } in
     let judged = judged_rooms c.args.r _ _ (rooms entry) c.judged-c.result _ _ c.room.ensures c.room-2.ensures c.judged-c.ensures in
-    take_refused c.args.r _ _ (rooms entry) c.judged-c.result _ judged c.is_accepted.ensures _ c.if-is_accepted.false c.refused.ensures
+    let b = take_refused c.args.r _ _ (rooms entry) c.judged-c.result _ judged c.is_accepted.ensures _ c.if-is_accepted.false c.refused.ensures in
+    record { same = b.0; kept = b.1.0; most = b.1.1 }
