@@ -8,17 +8,8 @@ pub mod Cutting
 pub mod Tables
 pub mod Taken
 pub mod Small
-pub mod Decimates
 pub mod Calls
-pub mod Counts
 pub mod Streams
-pub mod Enabling
-pub mod CostsKept
 pub mod Unique
 pub mod Recut
 pub mod Made
-pub mod MadeLaws
-pub mod FrontTyped
-pub mod ForgetsWithin
-pub mod Witness
-pub mod FirstValue

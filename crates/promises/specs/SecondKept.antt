@@ -1,7 +1,7 @@
 -- The second stream through a list of values: it stays enabled or not, and its arrays keep their sizes. Assumes nothing.
 use Rattle.std.specs.Prelude.{◌≡◌, Bool, true, false, length, Float}
 use Rattle.std.proofs.Math.Path.{refl}
-use Rattle.std.proofs.Common.{sym, ap, ◌∙◌, subst, arith, length-append}
+use Rattle.std.proofs.Common.{sym, ◌∙◌, subst, arith, length-append}
 use mathlib.Core.List.{List, [], ◌∷◌}
 use Rattle.complex.specs.declared.Complex32.{Complex32}
 use Rattle.answers.specs.declared.soft.Soft.{Soft}

@@ -1,6 +1,6 @@
 -- The two streams. Before enabling they are one. From enabling on both are silent for 31 symbols; the 32nd gives the first stream's dibit beside the second's 0 with [0, 0]; and the first stream is then what it is
 -- without the second. Over every state, list of values and input. Assumes nothing.
-use Rattle.std.specs.Prelude.{◌≡◌, Bool, true, false, cond, ℕ, ◌+◌, ◌%◌, ◌≤◌, ◌<◌, ℤ, ltb, Float}
+use Rattle.std.specs.Prelude.{◌≡◌, Bool, true, false, cond, ℕ, ◌+◌, ◌%◌, ◌≤◌, ◌<◌, ℤ, Float}
 use Rattle.std.proofs.Math.Path.{refl, ap, subst}
 use Rattle.std.proofs.Common.{sym, ◌∙◌, lt-ltb, le-ltb, ⊎_elim}
 use mathlib.Core.List.{List, [], ◌∷◌, ◌++◌}
@@ -337,7 +337,7 @@ module _ (taps derivatives : List Float) where
     pub records : t.records ≡ u.records
     pub off : u.state.second.enabled ≡ false
 
-  ran_same : (values : List Complex32) (t u : Told) → BothRan t u → BothRan (ran_of taps derivatives values t) (ran_of taps derivatives values u)
+  pub ran_same : (values : List Complex32) (t u : Told) → BothRan t u → BothRan (ran_of taps derivatives values t) (ran_of taps derivatives values u)
   unfolding ran_of told
   ran_same [] t u h = h
   ran_same (z ∷ values) t u h =
@@ -349,17 +349,3 @@ module _ (taps derivatives : List Float) where
         records = (λ i. records_after (next_of taps derivatives t.state (e i) z).outcome (slot_at t.state) (e i)) ∙ same_records t.state u.state r z h.state;
         off = step_enabled taps derivatives u.state z (record_before r (slot_at u.state)) ∙ h.off;
       })
-
-  -- THE THEOREM: after the 31 symbols that follow an enabling, the first stream delivers what it delivers from there without one
-  pub first_after_enabling : (xs ys : List Complex32) (t u : Told) → BothRan t u → Filling 0 t.state.second → heard_in taps derivatives xs t.state t.records ≡ 31
-      → deliveries taps derivatives (xs ++ ys) t.state t.records ≡ deliveries taps derivatives ys (ran_of taps derivatives xs u).state (ran_of taps derivatives xs u).records
-  first_after_enabling xs ys t u h fresh heard =
-      let q = silent_symbols taps derivatives xs t 0 fresh (omega arith) in
-      let b = ran_same xs t u h in
-      let s = ran_of taps derivatives xs t in
-      let filled = q.filling.filled in
-      let full : Full s.state.second = record { enabled = q.filling.enabled; filled = omega arith } in
-      deliveries_append taps derivatives delivery_of xs ys t
-      ∙ ap (λ (l : List Delivery). l ++ deliveries taps derivatives ys s.state s.records) q.first
-      ∙ ap (deliveries taps derivatives ys s.state) b.records
-      ∙ first_unchanged ys s.state (ran_of taps derivatives xs u).state (ran_of taps derivatives xs u).records b.state full b.off

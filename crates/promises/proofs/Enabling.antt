@@ -1,6 +1,6 @@
 -- Enabling. It is refused for a state that is not admitted, which is handed back as given; enabling twice is enabling once; the state that it gives is admitted, and from it both streams begin with 31 silent
 -- symbols. Before it, both streams are one. Assumes nothing.
-use Rattle.std.specs.Prelude.{◌≡◌, Bool, true, false, ℕ, ◌*◌, ◌≤◌, length, take, replicate, Float}
+use Rattle.std.specs.Prelude.{◌≡◌, Bool, true, false, ℕ, ◌≤◌, length, replicate, Float}
 use Rattle.std.proofs.Math.Path.{refl, ap, subst}
 use Rattle.std.proofs.Common.{sym, ◌∙◌, arith}
 use Rattle.std.proofs.Math.Bool.{cond}
@@ -8,7 +8,6 @@ use mathlib.Core.List.{List, [], ◌++◌}
 use Rattle.std.proofs.Math.ListN.{length-replicate}
 use Rattle.complex.specs.declared.Complex32.{Complex32}
 use Rattle.taps.specs.Taps.{both_tables}
-use Rattle.answers.specs.declared.walk.Previous.TheVariants.{Unknown}
 use Rattle.numbers.specs.Constants.{zero32}
 use Rattle.drift_detector.specs.Detector.{fresh_memory}
 use Rattle.drift_detector.specs.Theorems.{fresh_ranged as fresh_detector}
@@ -18,16 +17,18 @@ use Rattle.second.specs.FreshLaws.{fresh_ranged}
 use Rattle.second.specs.AdmittedLaws.{ranged_place}
 use Rattle.chain.specs.Rows.{Told, start, ran_of}
 use Rattle.receiver_state.specs.declared.state.Receiver.{Receiver}
-use Rattle.samples.specs.Samples.{count_of}
 use Rattle.checks.specs.Fits.{fits_from, fits_to}
 use Rattle.receiver.specs.Admitted.{admitted_of}
-use Rattle.receiver.specs.Block.{Rooms, one, start_of, Outcome, block_of}
+use Rattle.receiver.specs.Block.{Rooms, one, start_of, block_of}
 use Rattle.receiver.specs.Enable.{Enabling, started_of, enabled_of, enable_of}
-use Rattle.promises.specs.Deliveries.{Delivery, dibits_in, bytes_in, deliveries, values_of, deliveries_of, other_deliveries_of, accepted_is}
+use Rattle.promises.specs.Deliveries.{dibits_in, bytes_in, deliveries, values_of, deliveries_of, other_deliveries_of}
+use Rattle.promises.proofs.DeliveriesLaws.{accepted_is}
 use Rattle.promises.specs.SecondKept.{joined_length}
 use Rattle.promises.specs.Accepts.{Typed}
-use Rattle.promises.specs.Compose.{delivered_dibits, delivered_bytes, delivered_others, delivered_other_bytes, dibits_are, bytes_are, others_are, other_bytes_are}
-use Rattle.promises.specs.Streams.{one_before_enabling, Filling, heard_in, silent_symbols, BothRan, first_after_enabling}
+use Rattle.promises.specs.Compose.{delivered_dibits, delivered_bytes, delivered_others, delivered_other_bytes}
+use Rattle.promises.proofs.ComposeLaws.{dibits_are, bytes_are, others_are, other_bytes_are}
+use Rattle.promises.specs.Streams.{one_before_enabling, Filling, heard_in, silent_symbols, BothRan}
+use Rattle.promises.proofs.AfterEnabling.{first_after_enabling}
 
 -- ACCEPTED: the state enabled
 pub enable_accepted : (r : Receiver) → admitted_of r ≡ true → enable_of r ≡ record { number = 0; receiver = enabled_of r }

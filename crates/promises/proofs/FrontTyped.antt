@@ -26,7 +26,7 @@ use Rattle.receiver.specs.Block.{one, start_of}
 use Rattle.receiver.specs.Setup.{setup_of}
 use Rattle.promises.specs.Tables.{setup_fresh}
 use Rattle.promises.specs.Taken.{Call, answered_of}
-use Rattle.promises.specs.Decimates.{answered}
+use Rattle.promises.proofs.Decimates.{answered}
 
 -- ---- the dimensions of a setup
 module _ (rate offset : Float) (profile : ℤ) (table : List Float) (accepted : (setup_of rate offset profile table).number ≡ 0) where

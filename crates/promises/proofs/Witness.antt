@@ -19,15 +19,16 @@ use Rattle.receiver_state.specs.State.{zeroes, fresh_receiver}
 use Rattle.samples.specs.Samples.{count_of, real_of, imaginary_of, finite_of}
 use Rattle.receiver.specs.Setup.{setup_of}
 use Rattle.receiver.specs.Laws.{setup_admitted}
-use Rattle.promises.specs.Accepts.{setup_typed}
+use Rattle.promises.proofs.AcceptsLaws.{setup_typed}
 use Rattle.receiver.specs.Block.{one}
 use Rattle.promises.specs.Cutting.{Part, AllAccepted, samples_in, AllRoomy}
 use Rattle.promises.specs.Tables.{setup_fresh, setup_writes}
 use Rattle.promises.specs.Taken.{Call, answered_of, taken_of, given_of}
-use Rattle.promises.specs.Decimates.{sounds, hushed, p9_sizes, p9_decimates}
-use Rattle.promises.specs.Recut.{AllFew, Takes, parts_accepted}
-use Rattle.promises.specs.FrontTyped.{setup_arm, setup_decimation, setup_front_typed}
-use Rattle.promises.specs.ForgetsWithin.{Alike}
+use Rattle.promises.proofs.Decimates.{sounds, hushed, p9_sizes, p9_decimates}
+use Rattle.promises.specs.Recut.{AllFew, Takes}
+use Rattle.promises.proofs.RecutLaws.{parts_accepted}
+use Rattle.promises.proofs.FrontTyped.{setup_arm, setup_decimation, setup_front_typed}
+use Rattle.promises.proofs.ForgetsWithin.{Alike}
 
 -- ---- every accepted setup
 module _ (rate offset : Float) (profile : ℤ) (lent : List Float) (accepted : (setup_of rate offset profile lent).number ≡ 0) where

@@ -31,9 +31,11 @@ use Rattle.receiver_state.specs.State.{fresh_receiver, snapshot_of}
 use Rattle.run.specs.Run.{whole_run_of}
 use Rattle.receiver.specs.Setup.{setup_of}
 use Rattle.receiver.specs.Block.{Rooms, one, start_of, Outcome, refused_of, block_of}
-use Rattle.promises.specs.Deliveries.{answer_delivery, delivery_of, delivered_by, deliveries, values_of, deliveries_of, after_of, outcome_of, length_dibits, accepted_is}
-use Rattle.promises.specs.Compose.{delivered_dibits, dibits_are}
-use Rattle.promises.specs.Written.{refused_is}
+use Rattle.promises.specs.Deliveries.{answer_delivery, delivery_of, delivered_by, deliveries, values_of, deliveries_of, after_of, outcome_of}
+use Rattle.promises.proofs.DeliveriesLaws.{length_dibits, accepted_is}
+use Rattle.promises.specs.Compose.{delivered_dibits}
+use Rattle.promises.proofs.ComposeLaws.{dibits_are}
+use Rattle.promises.proofs.WrittenLaws.{refused_is}
 use Rattle.promises.specs.Tables.{setup_fresh}
 use Rattle.promises.specs.Taken.{Call, answered_of}
 use Rattle.promises.specs.Calls.{state_after, dibits_over, count_over, is_locked, locked_delivery, locked_deliveries, locked_deliveries_of, locked_over}

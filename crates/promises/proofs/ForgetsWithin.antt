@@ -26,10 +26,10 @@ use Rattle.oscillator.specs.Oscillator.{conjugated_of}
 use Rattle.receiver_state.specs.declared.state.Receiver.{Receiver}
 use Rattle.receiver.specs.Setup.{setup_of}
 use Rattle.promises.specs.Taken.{Call, taken_of, given_of, mixed_row}
-use Rattle.promises.specs.Decimates.{mixed_length, mixed_same, given_is, forgets_within, recovers_within}
+use Rattle.promises.proofs.Decimates.{mixed_length, mixed_same, given_is, forgets_within, recovers_within}
 use Rattle.promises.specs.Made.{made_of, tables_of}
-use Rattle.promises.specs.MadeLaws.{ring_in, taken_admitted, fits, made_alike}
-use Rattle.promises.specs.FrontTyped.{setup_arm, setup_decimation, FrontTyped, setup_front_typed}
+use Rattle.promises.proofs.MadeLaws.{ring_in, taken_admitted, fits, made_alike}
+use Rattle.promises.proofs.FrontTyped.{setup_arm, setup_decimation, FrontTyped, setup_front_typed}
 
 -- ---- how far back
 one_more : (c d k : ℕ) → 1 ≤ c → (c + k) * d ≡ (c - 1) * d + (k + 1) * d

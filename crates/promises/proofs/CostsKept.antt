@@ -36,13 +36,15 @@ use Rattle.receiver_state.specs.State.{fresh_receiver}
 use Rattle.run.specs.Run.{whole_run_of}
 use Rattle.receiver.specs.Setup.{setup_of}
 use Rattle.receiver.specs.Block.{one, start_of, Outcome}
-use Rattle.promises.specs.Deliveries.{values_of, after_of, accepted_is}
-use Rattle.promises.specs.Written.{refused_keeps}
+use Rattle.promises.specs.Deliveries.{values_of, after_of}
+use Rattle.promises.proofs.DeliveriesLaws.{accepted_is}
+use Rattle.promises.proofs.WrittenLaws.{refused_keeps}
 use Rattle.promises.specs.Tables.{setup_fresh}
 use Rattle.promises.specs.Taken.{Call, answered_of}
 use Rattle.promises.specs.Calls.{state_after}
-use Rattle.promises.specs.Accepts.{Typed, accepted_passes, passes_back, block_kept}
-use Rattle.promises.specs.Enabling.{started_is, enabled_typed, fresh_costs}
+use Rattle.promises.specs.Accepts.{Typed}
+use Rattle.promises.proofs.AcceptsLaws.{accepted_passes, passes_back, block_kept}
+use Rattle.promises.proofs.Enabling.{started_is, enabled_typed, fresh_costs}
 use Rattle.receiver.specs.Enable.{started_of, enabled_of}
 
 -- the invariant that a step of the trellis keeps

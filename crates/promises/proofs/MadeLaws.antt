@@ -35,9 +35,9 @@ use Rattle.samples.specs.Samples.{count_of}
 use Rattle.run.specs.Run.{front_at}
 use Rattle.receiver.specs.Block.{one, start_of}
 use Rattle.promises.specs.Deliveries.{values_of}
-use Rattle.promises.specs.Accepts.{accepted_passes}
+use Rattle.promises.proofs.AcceptsLaws.{accepted_passes}
 use Rattle.promises.specs.Taken.{Call, answered_of, taken_where, taken_of, rung_before, given_at, given_of, mixed_row}
-use Rattle.promises.specs.Decimates.{mixed_length, answered, given_is, hears, makes}
+use Rattle.promises.proofs.Decimates.{mixed_length, answered, given_is, hears, makes}
 use Rattle.promises.specs.Made.{made_at, made_of, tables_of}
 
 -- ---- the table decides the values that are made, and nothing of the ring

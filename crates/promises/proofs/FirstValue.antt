@@ -24,11 +24,11 @@ use Rattle.receiver_state.specs.declared.state.Receiver.{Receiver}
 use Rattle.receiver_state.specs.State.{fresh_receiver}
 use Rattle.promises.specs.Tables.{setup_fresh}
 use Rattle.promises.specs.Taken.{given_of}
-use Rattle.promises.specs.Decimates.{p9_sizes}
+use Rattle.promises.proofs.Decimates.{p9_sizes}
 use Rattle.promises.specs.Made.{made_of, tables_of}
-use Rattle.promises.specs.MadeLaws.{ring_in, ring_after, made_at_lem, Paced, given_length, given_paced}
-use Rattle.promises.specs.FrontTyped.{setup_arm, setup_decimation}
-use Rattle.promises.specs.Witness.{rate, lent, receiver, silence, setup_accepted, all_taken}
+use Rattle.promises.proofs.MadeLaws.{ring_in, ring_after, made_at_lem, Paced, given_length, given_paced}
+use Rattle.promises.proofs.FrontTyped.{setup_arm, setup_decimation}
+use Rattle.promises.proofs.Witness.{rate, lent, receiver, silence, setup_accepted, all_taken}
 
 -- ---- a ring into which j values have come, and of which none was made: the first output lies at 144
 abbrev first_place : Float

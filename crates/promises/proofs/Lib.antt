@@ -1,0 +1,16 @@
+pub mod AcceptsLaws
+pub mod AfterEnabling
+pub mod ComposeLaws
+pub mod CostsKept
+pub mod Counts
+pub mod CuttingLaws
+pub mod Decimates
+pub mod DeliveriesLaws
+pub mod Enabling
+pub mod FirstValue
+pub mod ForgetsWithin
+pub mod FrontTyped
+pub mod MadeLaws
+pub mod RecutLaws
+pub mod Witness
+pub mod WrittenLaws
