@@ -4,27 +4,38 @@ use Rattle.program.proofs.step.stepped.Goals as goal
 
 pub blocked-requires : goal.blocked-requires
 blocked-requires c =
-    (c.requires.in_bounds, samples_asks _ _ _ c.in-Samples.is c.requires.stage_nonzero c.requires.stage_bound)
+    let b = samples_asks _ _ _ c.in-Samples.is c.requires.stage_nonzero c.requires.stage_bound in
+    record { in_bounds = c.requires.in_bounds; left_nonzero = b.0; left_bound = b.1 }
 
 pub returns-in-Head : goal.returns-in-Head
 returns-in-Head c =
-    from_head _ _ _ _ _ _ c.headed.result _ c.in-Head.is c.headed.ensures
+    let e = c.headed.ensures in
+    let b = from_head _ _ _ _ _ _ c.headed.result _ c.in-Head.is (e.same, (e.near, (e.kept, e.on))) in
+    record { same = b.0; made = b.1.0; near = b.1.1.0; kept = b.1.1.1.0; on = b.1.1.1.1 }
 
 pub returns-in-Settings : goal.returns-in-Settings
 returns-in-Settings c =
-    from_settings _ _ _ _ _ _ c.set.result _ _ c.in-Settings.is c.set.ensures
+    let e = c.set.ensures in
+    let b = from_settings _ _ _ _ _ _ c.set.result _ _ c.in-Settings.is (e.same, (e.made, (e.near, (e.kept, e.on)))) in
+    record { same = b.0; made = b.1.0; near = b.1.1.0; kept = b.1.1.1.0; on = b.1.1.1.1 }
 
 pub returns-in-Count : goal.returns-in-Count
 returns-in-Count c =
-    from_count _ _ _ _ _ _ c.counted.result _ c.in-Count.is c.counted.ensures
+    let e = c.counted.ensures in
+    let b = from_count _ _ _ _ _ _ c.counted.result _ c.in-Count.is (e.same, (e.near, (e.kept, e.on))) in
+    record { same = b.0; made = b.1.0; near = b.1.1.0; kept = b.1.1.1.0; on = b.1.1.1.1 }
 
 pub returns-in-Samples : goal.returns-in-Samples
 returns-in-Samples c =
-    from_samples _ _ _ _ _ _ c.blocked.result _ _ c.in-Samples.is c.blocked.ensures
+    let e = c.blocked.ensures in
+    let b = from_samples _ _ _ _ _ _ c.blocked.result _ _ c.in-Samples.is (e.same, (e.near, (e.kept, e.on))) in
+    record { same = b.0; made = b.1.0; near = b.1.1.0; kept = b.1.1.1.0; on = b.1.1.1.1 }
 
 pub returns-in-End : goal.returns-in-End
 returns-in-End c =
-    from_end _ _ _ _ _ _ c.ended.result _ c.in-End.is c.ended.ensures
+    let e = c.ended.ensures in
+    let b = from_end _ _ _ _ _ _ c.ended.result _ c.in-End.is (e.same, (e.near, (e.kept, e.on))) in
+    record { same = b.0; made = b.1.0; near = b.1.1.0; kept = b.1.1.1.0; on = b.1.1.1.1 }
 
 pub returns-in-Done : goal.returns-in-Done
 returns-in-Done c =
