@@ -37,7 +37,7 @@ use Rattle.receiver.specs.Accepted.{ready_block}
 use Rattle.checks.specs.Checks.{Judged, judged_by, stated_of}
 use Rattle.receiver.specs.Admitted.{judged_of}
 use Rattle.receiver.specs.Block.{Rooms, one, dibit_room, reliability_room, start_of, receiver_of, Outcome, accepted_of, block_by, block_of}
-use Rattle.receiver.specs.BlockLaws.{room_in}
+use Rattle.receiver.proofs.BlockLaws.{room_in}
 
 -- ---- the list
 
