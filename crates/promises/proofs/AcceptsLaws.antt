@@ -33,7 +33,7 @@ use Rattle.run.specs.Run.{front_at, whole_run_of, Going, ReadyRun}
 use Rattle.receiver.specs.Block.{Rooms, one, dibit_room, reliability_room, start_of, floats_of, block_of}
 use Rattle.checks.specs.Ways.{counted}
 use Rattle.receiver.specs.Accepted.{ReadyBlock, ready_block, numbers_of}
-use Rattle.receiver.specs.BlockLaws.{room_in, run_asks, run_admitted}
+use Rattle.receiver.proofs.BlockLaws.{room_in, run_asks, run_admitted}
 use Rattle.promises.specs.Deliveries.{after_of}
 use Rattle.promises.proofs.DeliveriesLaws.{number_is, accepted_is}
 use Rattle.promises.specs.SecondKept.{SecondSized, ran_sized, SplitsBack, ran_splits}

@@ -37,7 +37,7 @@ use Rattle.receiver.specs.Accepted.{ready_block}
 use Rattle.checks.specs.Checks.{Judged, judged_by, stated_of}
 use Rattle.receiver.specs.Admitted.{judged_of}
 use Rattle.receiver.specs.Block.{Rooms, one, dibit_room, reliability_room, start_of, Outcome, accepted_of, block_by, block_of}
-use Rattle.receiver.specs.BlockLaws.{room_in}
+use Rattle.receiver.proofs.BlockLaws.{room_in}
 use Rattle.promises.specs.Deliveries.{Delivery, after_of, answer_delivery, bytes_in, delivered_by, deliveries, deliveries_of, delivery_of, dibits_in, other_deliveries, other_deliveries_of, other_delivery_of, outcome_of, values_of}
 
 -- ---- laws of the list

@@ -6,7 +6,7 @@ use Rattle.receiver_state.specs.declared.state.Receiver.{Receiver}
 use Rattle.receiver.specs.declared.setup.Setup.{Setup}
 use Rattle.receiver.specs.declared.block.Block.{Block}
 use Rattle.receiver.specs.declared.reading.Points.{Points}
-use Rattle.checks.specs.Laws.{number_tells}
+use Rattle.checks.proofs.Laws.{number_tells}
 use Rattle.receiver.specs.Setup.{SetUp, setup_now, setup_of}
 use Rattle.receiver.specs.declared.enable.Enabled.{Enabled}
 use Rattle.receiver.specs.Block.{Rooms, Outcome, outcome_now, block_of}

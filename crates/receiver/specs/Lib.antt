@@ -6,5 +6,4 @@ pub mod Ways
 pub mod Accepted
 pub mod Absent
 pub mod Block
-pub mod BlockLaws
 pub mod Laws

@@ -15,16 +15,26 @@ overflow_add-result c =
 
 pub returns-then-is_accepted : goal.returns-then-is_accepted
 returns-then-is_accepted c =
-    record { same = samples_on _ _ _ _ _ _ _ c.next_of-next.ensures _ c.is_whole.ensures c.if-is_whole.true c.answered-a.result _ c.answered-a.ensures.same _
-          c.is_accepted.ensures _ c.if-is_accepted.true c.stage_of-stage.ensures; near = omega (arith, c.answered-a.ensures.near, c.next_of-next.ensures); kept = c.answered-a.ensures.kept; on = samples_moves _ _ _ _ _ c.next_of-next.ensures c.requires.left_nonzero c.answered-a.ensures.few c.stage_of-stage.ensures }
+    record {
+      same = samples_on _ _ _ _ _ _ _ c.next_of-next.ensures _ c.is_whole.ensures c.if-is_whole.true c.answered-a.result _ c.answered-a.ensures.same _
+          c.is_accepted.ensures _ c.if-is_accepted.true c.stage_of-stage.ensures;
+      near = omega (arith, c.answered-a.ensures.near, c.next_of-next.ensures);
+      kept = c.answered-a.ensures.kept;
+      on = samples_moves _ _ _ _ _ c.next_of-next.ensures c.requires.left_nonzero c.answered-a.ensures.few c.stage_of-stage.ensures;
+    }
 
 pub refused-requires : goal.refused-requires
 refused-requires c =
     omega (arith, c.answered-a.ensures.near, c.next_of-next.ensures, c.requires)
 
 pub returns-then-is_whole : goal.returns-then-is_whole
-returns-then-is_whole c = record { same = samples_refused _ _ _ _ _ _ _ c.next_of-next.ensures _ c.is_whole.ensures c.if-is_whole.true c.answered-a.result _ c.answered-a.ensures.same _
-      c.is_accepted.ensures _ c.if-is_accepted.false c.refused.ensures.same; near = omega (arith, c.refused.ensures.near, c.answered-a.ensures.near, c.next_of-next.ensures); kept = search rules; on = refused_moves (Samples c.args.left) _ _ _ c.refused.result _ _ c.refused.ensures.same (omega arith) }
+returns-then-is_whole c = record {
+  same = samples_refused _ _ _ _ _ _ _ c.next_of-next.ensures _ c.is_whole.ensures c.if-is_whole.true c.answered-a.result _ c.answered-a.ensures.same _
+      c.is_accepted.ensures _ c.if-is_accepted.false c.refused.ensures.same;
+  near = omega (arith, c.refused.ensures.near, c.answered-a.ensures.near, c.next_of-next.ensures);
+  kept = search rules;
+  on = refused_moves (Samples c.args.left) _ _ _ c.refused.result _ _ c.refused.ensures.same (omega arith);
+}
 
 pub returns : goal.returns
 returns c =

@@ -13,13 +13,25 @@ float-requires-then-is_whole c = whole_room _ _ _ _ c.is_whole.ensures c.if-is_w
 
 pub returns-then-is_accepted : goal.returns-then-is_accepted
 returns-then-is_accepted c =
-    record { same = settings_on _ _ _ c.is_whole.ensures c.if-is_whole.true c.set_up-s.result _ _ _ c.float.ensures c.float-then-is_whole.ensures c.set_up-s.ensures _ _ _ _
-          c.is_accepted.ensures c.if-is_accepted.true; made = table_made _ _ _ c.is_whole.ensures c.if-is_whole.true c.set_up-s.result _ _ _ c.float.ensures c.float-then-is_whole.ensures c.set_up-s.ensures; near = omega arith; kept = refl; on = record { few = omega arith; less = omega arith } }
+    record {
+      same = settings_on _ _ _ c.is_whole.ensures c.if-is_whole.true c.set_up-s.result _ _ _ c.float.ensures c.float-then-is_whole.ensures c.set_up-s.ensures _ _ _ _
+          c.is_accepted.ensures c.if-is_accepted.true;
+      made = table_made _ _ _ c.is_whole.ensures c.if-is_whole.true c.set_up-s.result _ _ _ c.float.ensures c.float-then-is_whole.ensures c.set_up-s.ensures;
+      near = omega arith;
+      kept = refl;
+      on = record { few = omega arith; less = omega arith };
+    }
 
 pub returns-then-is_whole : goal.returns-then-is_whole
 returns-then-is_whole c =
-    record { same = settings_refused _ _ _ c.is_whole.ensures c.if-is_whole.true c.set_up-s.result _ _ _ c.float.ensures c.float-then-is_whole.ensures c.set_up-s.ensures _ _ _ _
-          c.is_accepted.ensures _ c.if-is_accepted.false c.refused.ensures.same; made = table_made _ _ _ c.is_whole.ensures c.if-is_whole.true c.set_up-s.result _ _ _ c.float.ensures c.float-then-is_whole.ensures c.set_up-s.ensures; near = c.refused.ensures.near; kept = c.refused.ensures.kept; on = refused_moves Settings _ _ _ c.refused.result _ _ c.refused.ensures.same (omega arith) }
+    record {
+      same = settings_refused _ _ _ c.is_whole.ensures c.if-is_whole.true c.set_up-s.result _ _ _ c.float.ensures c.float-then-is_whole.ensures c.set_up-s.ensures _ _ _ _
+          c.is_accepted.ensures _ c.if-is_accepted.false c.refused.ensures.same;
+      made = table_made _ _ _ c.is_whole.ensures c.if-is_whole.true c.set_up-s.result _ _ _ c.float.ensures c.float-then-is_whole.ensures c.set_up-s.ensures;
+      near = c.refused.ensures.near;
+      kept = c.refused.ensures.kept;
+      on = refused_moves Settings _ _ _ c.refused.result _ _ c.refused.ensures.same (omega arith);
+    }
 
 pub returns : goal.returns
 returns c =

@@ -11,7 +11,7 @@ use mir.Facts.{to_z-of_z}
 use Rattle.run.specs.Run.{whole_now}
 use Rattle.receiver.specs.Block.{Rooms, one}
 use Rattle.receiver.specs.Accepted.{take_asks, take_total}
-use Rattle.receiver.specs.BlockLaws.{none_lent, run_asks, ended_one, taken_one, take_refused}
+use Rattle.receiver.proofs.BlockLaws.{none_lent, run_asks, ended_one, taken_one, take_refused}
 use borrow.Author.Rules.{rules}
 use Rattle.receiver.proofs.block.take.Lts as lts
 use Rattle.receiver.proofs.block.take.Reads as reads

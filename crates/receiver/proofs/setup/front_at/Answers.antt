@@ -1,5 +1,4 @@
 -- `front_at` meets its contract: each part is fresh for the rate, the offset and the dimensions.
-use Rattle.oscillator.proofs.fresh.Reads as fresh-reads'
 use Rattle.receiver.proofs.setup.front_at.Goals as goal
 
 pub returns : goal.returns

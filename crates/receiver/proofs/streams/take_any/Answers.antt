@@ -9,7 +9,7 @@ use Rattle.run.specs.Run.{whole_now}
 use Rattle.second.specs.Parts.{split_join}
 use Rattle.receiver.specs.Block.{Rooms, rooms_of}
 use Rattle.receiver.specs.Accepted.{take_asks, take_total}
-use Rattle.receiver.specs.BlockLaws.{run_asks, judged_rooms, ended_both, taken_is, take_refused}
+use Rattle.receiver.proofs.BlockLaws.{run_asks, judged_rooms, ended_both, taken_is, take_refused}
 use borrow.Author.Rules.{rules}
 use Rattle.receiver.proofs.streams.take_any.Lts as lts
 use Rattle.receiver.proofs.streams.take_any.Reads as reads

@@ -5,7 +5,6 @@ use Rattle.std.proofs.Common.{◌∙◌, arith}
 use Rattle.std.proofs.Math.Bool.{true≢false}
 use Rattle.std.proofs.lemmas.Bool.{false≢true}
 use Rattle.std.proofs.Math.Dec.{eqb}
-use Rattle.front.specs.Admitted as fit
 use Rattle.oscillator.specs.Oscillator.{conjugated_of}
 use Rattle.second.specs.Second.{second_of}
 use Rattle.second.specs.Parts.{split_join}
