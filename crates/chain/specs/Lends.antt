@@ -1,7 +1,6 @@
 -- What the chain is lent, by the names of its parameters: each is a type that computes to the clause written out. Definitions only.
-use Rattle.std.specs.Prelude.{ℕ, Bool, Float}
+use Rattle.std.specs.Prelude.{ℕ, Float}
 use Rattle.laws.specs.Lent.{NowMut, LendsMut}
-use Rattle.answer_row.specs.AnswerRow.{AnswerRow}
 use Rattle.decisions.specs.Decisions as Decisions
 use Rattle.second.specs.Second.{second_of}
 use Rattle.delivery.specs.declared.Delivered.{Delivered}

@@ -3,6 +3,8 @@
 // where it is enabled, and delivery (labels, counts), which writes what both answer where the caller says.
 // Rings, weights, channels and the view's points are planes that the caller lends; the soft records go by
 // value.
+#![tactic(auto)]
+
 ghost use Rattle.std.specs.Prelude.{◌≡◌, ◌≤◌};
 ghost use Rattle.chain.specs.Chain.{fresh_place, delivery_of, joined_place};
 ghost use Rattle.chain.specs.Rows.{values_of, chain_of};

@@ -1,6 +1,4 @@
 -- Cutting anew, at any total length. Parts that are accepted one after the other stay accepted when their samples are cut into other parts, each of whole samples, at most 65,536 of them, with rooms that suffice; and both give the
-use Rattle.promises.specs.Recut.{AllFew, Takes}
-
 -- same dibits, the same reliabilities and the same state. Assumes nothing.
 use Rattle.std.specs.Prelude.{◌≡◌, true, ◌&&◌, List, [], ◌∷◌, ◌+◌, ◌*◌, ◌^◌, ◌≤◌, ◌<◌, length, Float}
 use Rattle.std.proofs.Math.Path.{refl}
@@ -16,6 +14,7 @@ use Rattle.promises.specs.Accepts.{Typed}
 use Rattle.promises.proofs.AcceptsLaws.{accepted_passes, passes_accepted, block_kept}
 use Rattle.promises.specs.Cutting.{Part, called, session_of, AllAccepted, samples_in, AllRoomy}
 use Rattle.promises.proofs.CuttingLaws.{any_cutting}
+use Rattle.promises.specs.Recut.{AllFew, Takes}
 
 -- the total after an accepted part
 total_on : (r : Receiver) (table : List Float) (c : Part) → (called r table c).number ≡ 0 → (called r table c).receiver.total ≡ r.total + count_of c.samples

@@ -1,4 +1,9 @@
--- Cutting anew, at any total length. Parts that are accepted one after the other stay accepted when their samples are cut into other parts, each of whole samples, at most 65,536 of them, with rooms that suffice; and both give the
+-- What parts that are cut anew have to be, and what a state, a table and all samples have to be. What holds of it stands in proofs/.
+use Rattle.std.specs.Prelude.{◌≡◌, true, List, [], ◌∷◌, ◌+◌, ◌*◌, ◌^◌, ◌≤◌, length, Float}
+use Rattle.receiver_state.specs.declared.state.Receiver.{Receiver}
+use Rattle.receiver.specs.Admitted.{admitted_of}
+use Rattle.samples.specs.Samples.{count_of, finite_of}
+use Rattle.promises.specs.Cutting.{Part}
 
 -- parts of at most 65,536 samples each
 abbrev pub AllFew : List Part → Type 0

@@ -4,6 +4,8 @@
 //
 // A read that fails counts as the end of the input. A write that fails ends the run: what was written
 // is a beginning of the answer and lacks its last lines.
+#![tactic(auto)]
+
 ghost use Rattle.std.specs.Prelude.{◌≡◌, ◌+◌, ◌≤◌, ◌<◌, length, take};
 ghost use Rattle.program.specs.Program.{wanted_of, left_of, ran_now, step_of, table_of, Moves};
 ghost use Rattle.receive.specs.Turn.{Turn};

@@ -1,5 +1,7 @@
 // The run over a block's samples: a row of values from the front, the row through the chain, until the
 // samples are used up.
+#![tactic(auto)]
+
 ghost use Rattle.std.specs.Prelude.{◌≡◌};
 ghost use Rattle.run.specs.Run.{Given, Leaves, whole_run_of, Going, ReadyRun};
 

@@ -4,9 +4,6 @@ use mir.Facts.{to_z-of_z}
 use mir.Val.{SFits}
 use mir.Syntax.{w32}
 use borrow.Author.Rules.{rules}
-use Rattle.clock.proofs.fresh.Reads as fresh-reads'
-use Rattle.peak.proofs.fresh.Reads as fresh-reads''
-use Rattle.signal.proofs.fresh.Reads as fresh-reads'''
 use Rattle.chain.proofs.fresh.Goals as goal
 
 pub returns : goal.returns

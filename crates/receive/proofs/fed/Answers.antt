@@ -9,5 +9,5 @@ slice_bounds-stepped-end-2 c = sym (length-take-le _ _ (search rules))
 
 pub returns : goal.returns
 returns c =
-    let stepped_says = c.stepped-program.ensures in
-    (search rules, stepped_says)
+    let e = c.stepped-program.ensures in
+    record { within = search rules; same = e.same; made = e.made; near = e.near; kept = e.kept; on = e.on }

@@ -23,4 +23,4 @@ returns c =
     let fed_kept = c.fed-f.auto in
     let wanted_says = c.wanted-want.ensures in
     let fed_gives = c.fed-f.result in
-    let room = waited_room p.stage _ _ fed_left.1.0 fed_kept.1.0 wanted_says in record { turn = turned_is _ _ _ _ _ _ _ fed_says.within room fed_says.same fed_says.made _ c.write_all-written.result c.gone_on.ensures; on = moves_gone _ _ fed_gives.program _ c.write_all-written.result fed_says.on c.gone_on.ensures }
+    let room = waited_room p.stage _ _ fed_left.bytes fed_kept.bytes wanted_says in record { turn = turned_is _ _ _ _ _ _ _ fed_says.within room fed_says.same fed_says.made _ c.write_all-written.result c.gone_on.ensures; on = moves_gone _ _ fed_gives.program _ c.write_all-written.result fed_says.on c.gone_on.ensures }

@@ -1,5 +1,4 @@
 -- `run` meets its contract: each turn of its loop carries the run on by a row, and the row that ends the samples ends it.
-use Prim.Native.Nat.{◌-◌}
 use mathlib.Core.Path.{refl, ◌∙◌}
 use native.Mathlib.Omega.{arith}
 use Rattle.run.specs.RunLaws.{going_start, front_asks, chain_asks, row_filled, going_on, going_less, going_within, going_end}

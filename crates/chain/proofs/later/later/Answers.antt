@@ -1,7 +1,6 @@
 -- `later` meets its contract: a row decided by the first and, where it is enabled, by the second, and what both answer told.
 use mathlib.Core.Path.{refl}
 use Rattle.chain.specs.LaterLaws.{later_both, later_one}
-use Rattle.second.proofs.decide.Reads as decide-reads'
 use Rattle.chain.proofs.later.later.Goals as goal
 
 pub decide-decided-requires : goal.decide-decided-requires

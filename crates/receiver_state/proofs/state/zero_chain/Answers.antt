@@ -1,7 +1,6 @@
 -- `zero_chain` meets its contract: every place of the chain is zero.
 use lib.Ieee.{of_bits}
 use Rattle.receiver_state.specs.State.{zero_chain}
-use Rattle.signal.proofs.fresh.Reads as fresh-reads'
 use Rattle.receiver_state.proofs.state.zero_chain.Goals as goal
 
 pub returns : goal.returns
