@@ -3,26 +3,17 @@ use mathlib.Core.Path.{sym, ap, ◌∙◌}
 use lib.ListN.{length}
 use Rattle.laws.specs.Places.{length_upto}
 use Rattle.sequence.specs.Sequence.{fresh_real}
-use borrow.Author.Tests.{not-false}
 use Rattle.clock.specs.AdmittedLaws.{admitted_facts}
 use Rattle.replay_chain.proofs.answer.Goals as goal
 
 pub run-requires : goal.run-requires
 unfolding fresh_real
 run-requires c =
-    let test = c.before.before.before.before.before.before.before.before.before.before.before.before.before.before.before in
-    let at_is_admitted = test.before in
-    let at_made_second = at_is_admitted.before in
-    let at_made_place = at_made_second.before.before.before.before.before.before.before.before.before.before.before.before.before.before.before in
-    let at_fill_parents = at_made_place.before.before.before in
-    let at_fill9 = at_fill_parents.before.before.before in
-    let at_fill8 = at_fill9.before.before.before in
-    let at_fill7 = at_fill8.before.before.before in
     let q = c.requires in
     record {
       recovery = record {
         keeper = record { head = q.keeper_head; fill = q.keeper_fill; real_size = c.fill-s1.ensures; imaginary_size = c.fill-s2.ensures };
-        clock = admitted_facts _ (sym c.is_admitted.ensures ∙ not-false _ c.if-not-is_admitted.false);
+        clock = admitted_facts _ (sym c.is_admitted.ensures ∙ c.if-not-is_admitted.false);
       };
       decisions = record {
         carrier = record {

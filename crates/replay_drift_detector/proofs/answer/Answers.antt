@@ -9,10 +9,6 @@ use Rattle.replay_drift_detector.proofs.answer.Goals as goal
 pub run-requires : goal.run-requires
 unfolding fresh_real
 run-requires c =
-    let at_made_place = c.before.before.before.before.before.before.before.before in
-    let at_fill_parents = at_made_place.before.before in
-    let at_fill5 = at_fill_parents.before.before.before in
-    let at_fill4 = at_fill5.before.before.before in
     record {
       skeleton = record {
         place = record { write = c.made_place-place.ensures.0; filled = c.made_place-place.ensures.1; earlier = c.made_place-place.ensures.2 };

@@ -12,4 +12,4 @@ sized-dimensions-requires c = record { range = record { lower = tt; upper = tt }
 pub pass-requires : goal.pass-requires
 unfolding fresh_of
 pass-requires c =
-    rw c.fresh-fresh.ensures (fresh_admitted _ c.sized-dimensions.ensures.ranges, refl)
+    rw c.fresh-fresh.ensures (record { admitted = fresh_admitted _ c.sized-dimensions.ensures.ranges; index_value = refl })

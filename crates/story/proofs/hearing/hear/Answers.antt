@@ -22,16 +22,6 @@ pub slice_bounds-heard-count : goal.slice_bounds-heard-count
 slice_bounds-heard-count c =
     search (rules, c.loop-k-test, c.requires)
 
--- NOGOAL part_heard_start : tie.Need-slice-bounds-heard-start invariant_loop decreases_loop
--- part_heard_start c =
---     let entry = c.before.before.before.before.before.before.before.before in
---     search (rules, c.before.loop-test, entry.requires)
-
--- NOGOAL part_heard_end : tie.Need-slice-bounds-heard-end invariant_loop decreases_loop
--- part_heard_end c =
---     let entry = c.before.before.before.before.before.before.before.before in
---     search (rules, c.before.loop-test, entry.requires)
-
 pub offset_bounds-digests-k : goal.offset_bounds-digests-k
 offset_bounds-digests-k c = search (rules, c.loop-k-test)
 
