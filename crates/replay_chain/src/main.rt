@@ -1,6 +1,8 @@
 // Runs the chain on each run of rows from standard input, from the run's own state, with a second stream
 // or without, and writes a line for each row: the digest of its dibits and of the whole state after it, in
 // the order of the list that the oracle prints.
+#![tactic(auto)]
+
 ghost use Rattle.std.specs.Prelude.{◌≡◌, cond, ◌+◌, ◌<◌, ◌≤◌, length};
 ghost use Rattle.chain.specs.Ranges.{most_symbols, Ranged};
 ghost use Rattle.replay_chain.specs.Sound.{Sound};

@@ -1,5 +1,7 @@
 // Plays a list of samples, updates and handed-in places from standard input through the clock, and
 // writes a line for each: the digest of the place after it and, for a sample, of its windows.
+#![tactic(auto)]
+
 use clock::{ClockPlace, Due};
 use complex::Complex32;
 use replay::{any, mixed, mixed_flag, mixed_float32, mixed_plane, print_line, word};

@@ -1,5 +1,7 @@
 // The detector's state for the replay programs: made from a seed, and digested whole; and a run's head
 // and inputs. Test machinery: it is proved safe and ending, and that what it makes may be run.
+#![tactic(auto)]
+
 ghost use Rattle.std.specs.Prelude.{◌≡◌, ◌<◌, ◌≤◌, length};
 ghost use Rattle.answers.specs.Walk.{Table, Earlier};
 

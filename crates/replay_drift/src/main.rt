@@ -1,6 +1,8 @@
 // Runs the second tracker on each run of steps from standard input, from the run's own state, and writes
 // a line for each step: the digest of the whole state after it, in the order of the list that the oracle
 // prints.
+#![tactic(auto)]
+
 ghost use Rattle.std.specs.Prelude.{◌≡◌, ◌<◌, ◌≤◌, length};
 ghost use Rattle.channels.specs.Channels.{Parents};
 ghost use Rattle.replay_drift.specs.Sized.{Sized};

@@ -1,5 +1,7 @@
 // Plays a list of steps from standard input through the equalizer, and writes a line for each: the
 // digest of its symbol, its timing error and all its weights.
+#![tactic(auto)]
+
 ghost use Rattle.std.specs.Prelude.{◌+◌, ◌*◌, ◌≤◌};
 
 use equalizer::{Equalized, WEIGHTS};

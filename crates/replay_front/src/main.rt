@@ -1,6 +1,8 @@
 // Runs the front on each run of samples from standard input, made from the run's seed, and writes a
 // line for each: the digest of its values and of the state after them, in the order of the list that
 // the oracle prints.
+#![tactic(auto)]
+
 ghost use Rattle.std.specs.Prelude.{◌≡◌, not, ◌+◌, ◌-◌, ◌^◌, ◌<◌, ◌≤◌, T, length};
 ghost use Rattle.std.specs.Float.Ieee.{is_nan};
 ghost use Rattle.front.specs.Admitted.{Admitted, Numbers};

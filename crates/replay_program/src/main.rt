@@ -2,6 +2,8 @@
 // it out: each is its length in an 8-byte word, then its bytes. A line with its number and length stands
 // before what the program writes for it. The steps are taken as `receive` takes them: over as many bytes
 // as the stage waits for, fewer at the recording's end.
+#![tactic(auto)]
+
 ghost use Rattle.std.specs.Prelude.{◌+◌, ◌≤◌, ◌<◌, length};
 ghost use Rattle.program.specs.Program.{wanted_of, left_of, Moves};
 

@@ -2,6 +2,8 @@
 // of both and constellation reads on a state and a table that stay from entry to entry, or are handed in
 // word by word. What is lent is filled with a pattern before each call, and all of it goes into the
 // answer's digest.
+#![tactic(auto)]
+
 use replay_states::WORDS;
 
 mod desk;

@@ -1,6 +1,8 @@
 // Runs the filter design, the decimator and the resampler on each run from standard input, and
 // writes what it asks for, in the order of the list that the oracle prints. The samples of a run are
 // made from its seed.
+#![tactic(auto)]
+
 ghost use Rattle.std.specs.Prelude.{◌^◌, ◌<◌, ◌≤◌, length};
 ghost use Rattle.resampler.specs.Admitted.{Admitted};
 ghost use Rattle.replay_resampler.specs.Held.{Held};

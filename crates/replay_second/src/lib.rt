@@ -1,5 +1,7 @@
 // The second stream's state for the replay programs: made from six words, and digested whole. Test
 // machinery: it is proved safe and ending, and that what it makes may be run.
+#![tactic(auto)]
+
 ghost use Rattle.std.specs.Prelude.{◌≡◌, ◌≤◌, length};
 ghost use Rattle.second.specs.Second.{second_of};
 ghost use Rattle.second.specs.Ranges.{Ranged};

@@ -1,6 +1,8 @@
 // Runs the detector on each run of steps from standard input, from the run's own state, and writes a
 // line for each step: the digest of its answer and of the whole state after it, or the answer itself,
 // in the order of the list that the oracle prints.
+#![tactic(auto)]
+
 ghost use Rattle.lms_detector.specs.Ranges.{Ranged};
 
 use answers::PARENTS;

@@ -2,6 +2,8 @@
 // complement for signed ones, an option as 1 and its values or zeros, planes of reals before planes
 // of imaginaries. The second stream's words are the last 11,505. Three words of each detector stay zero:
 // an observation that the Rust keeps and never reads.
+#![tactic(auto)]
+
 ghost use Rattle.std.specs.Prelude.{◌+◌, ◌<◌};
 
 use answers::PARENTS;

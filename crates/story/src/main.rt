@@ -3,6 +3,8 @@
 // what the front still holds of the neighbour, as oracle/src/story.rs lays it out. Every line is the
 // Rust's, so that no dibit is marked reliable that the Rust does not mark. The silence has 2,048
 // samples; the front has forgotten what was before it after (c + 3) d of them, 582 (`front-forgets`).
+#![tactic(auto)]
+
 ghost use Rattle.std.specs.Prelude.{◌≡◌, ◌≤◌, length};
 
 use hearing::hear;

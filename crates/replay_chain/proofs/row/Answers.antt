@@ -27,12 +27,15 @@ slice_bounds-chain-end-5 c =
 
 pub chain-c-requires : goal.chain-c-requires
 chain-c-requires c =
-    let asked = c.requires in record { given = record {
+    let asked = c.requires in record {
+      given = record {
         state = asked.given;
         symbols = omega (arith, asked.symbols_bound, asked.made_bound);
         room = record { dibits = search (rules, asked.made_bound, asked.before_bound); reliabilities = search (rules, asked.made_bound, asked.before_bound) };
         other = lent_rooms _ _ _ _ _ _ c.rooms-room.ensures.value refl refl asked.made_bound asked.before_bound;
-      }; made_bound = asked.made_bound }
+      };
+      made_bound = asked.made_bound;
+    }
 
 pub returns : goal.returns
 returns c =

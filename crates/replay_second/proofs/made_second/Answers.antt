@@ -7,7 +7,8 @@ pub returns : goal.returns
 returns c =
     let place_is = c.made_place-made.ensures in
     let parents_are = c.fill_parents-s2.ensures in
-    let whole = c.fill_memory-s1.ensures in record { ranged = record {
+    let whole = c.fill_memory-s1.ensures in record {
+      ranged = record {
         alternation = c.turned-turn.ensures;
         detector = record {
           skeleton = record {
@@ -18,4 +19,6 @@ returns c =
           };
           memory = memory_sized _ (omega (arith, whole));
         };
-      }; whole = parents_are.1 }
+      };
+      whole = parents_are.1;
+    }
