@@ -1,5 +1,5 @@
 -- Admitted in, admitted out: every value keeps the chain's ranges, since each stage keeps its own. Assumes nothing.
-use Rattle.std.specs.Prelude.{◌≡◌, true, ℕ, List, ℤ, length, Float}
+use Rattle.std.specs.Prelude.{◌≡◌, true, ℕ, List, ℤ, length, Option, Some, None, Float}
 use Rattle.std.proofs.Common.{arith}
 use Rattle.complex.specs.declared.Complex32.{Complex32}
 use Rattle.peak.specs.Peak as Peak
@@ -10,7 +10,6 @@ use Rattle.answers.specs.declared.soft.Soft.{Soft}
 use Rattle.sequence.specs.Sequence as Sequence
 use Rattle.lms_detector.specs.Ranges as Detector
 use Rattle.recovery.specs.declared.step.Found.{Found}
-use Rattle.recovery.specs.declared.step.Found.TheVariants.{Nothing, Here}
 use Rattle.recovery.specs.Recovery as Recovery
 use Rattle.recovery.specs.Ranges as RecoveryRanges
 use Rattle.recovery.specs.Laws as RecoveryLaws
@@ -26,11 +25,16 @@ use Rattle.delivery.specs.Laws.{told_ranged}
 use Rattle.chain.specs.Chain.{fresh_place, ChainState, recovery_of, decisions_of, delivery_of, heard_of, stepped_of}
 use Rattle.chain.specs.Ranges.{Ranged}
 
-heard_ranged : (f : Found) (r : Recovery.RecoveryState) (d : Decisions.DecisionsState) (s : SecondState) (p : DeliveryPlace) (oldest : Soft)
+heard_ranged : (f : Option Found) (r : Recovery.RecoveryState) (d : Decisions.DecisionsState) (s : SecondState) (p : DeliveryPlace) (oldest : Soft)
     → RecoveryRanges.Ranged r → DecisionsRanges.Ranged d → (s.enabled ≡ true → SecondRanges.Ranged s) → DeliveryRanges.Ranged p → Ranged (heard_of f r d s p oldest).state
 unfolding heard_of
-heard_ranged Nothing r d s p oldest a b e c = record { recovery = a; decisions = b; second = e; delivery = c }
-heard_ranged (Here z reliable) r d s p oldest a b e c = record { recovery = a; decisions = decided_ranged d z reliable oldest b; second = other_ranged s _ z reliable e; delivery = told_ranged p _ _ c }
+heard_ranged None r d s p oldest a b e c = record { recovery = a; decisions = b; second = e; delivery = c }
+heard_ranged (Some found) r d s p oldest a b e c = record {
+  recovery = a;
+  decisions = decided_ranged d found.symbol found.reliable oldest b;
+  second = other_ranged s _ found.symbol found.reliable e;
+  delivery = told_ranged p _ _ c;
+}
 
 pub stepped_ranged : (taps derivatives : List Float) (s : ChainState) (z : Complex32) (oldest : Soft) → Ranged s → Ranged (stepped_of taps derivatives s z oldest).state
 unfolding stepped_of

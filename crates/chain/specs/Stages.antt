@@ -1,5 +1,5 @@
 -- THE STAGES: the chain value by value is the first stage over the row of values, then the later ones over its row of symbols. Assumes nothing.
-use Rattle.std.specs.Prelude.{◌≡◌, Bool, false, length, get_or, set, Float}
+use Rattle.std.specs.Prelude.{◌≡◌, Bool, false, length, get_or, set, Option, Some, None, Float}
 use Rattle.std.proofs.Math.Path.{refl, sym, ap}
 use Rattle.std.proofs.Common.{◌∙◌, get_or-set_same, get_or-set_other}
 use Prim.Native.Nat.{ℕ, zero, suc, ◌+◌, ◌*◌, ◌≤◌}
@@ -13,7 +13,6 @@ use Rattle.complex.specs.Planes.{point_at}
 use Rattle.answers.specs.declared.soft.Slot.{Slot}
 use Rattle.answers.specs.Observed.{record_before}
 use Rattle.recovery.specs.declared.step.Found.{Found}
-use Rattle.recovery.specs.declared.step.Found.TheVariants.{Nothing, Here}
 use Rattle.recovery.specs.Recovery as Recovery
 use Rattle.recovery.specs.Rows as Recovered
 use Rattle.recovery.specs.Ranges as RecoveryRanges
@@ -48,18 +47,20 @@ unfolding said_row turns
 over_none s l e = ap (λ (n : ℕ). said_row s.real s.imaginary s.reliable n l) e
 
 -- a symbol, where there is one, decided and delivered
-abbrev said_by : Found → Later → Later
-said_by Nothing l = l
-said_by (Here z sure) l = said_of l z sure
+abbrev said_by : Option Found → Later → Later
+said_by None l = l
+said_by (Some found) l = said_of l found.symbol found.reliable
 
 row_more : (r i : List Float) (b : List Bool) (n : ℕ) (l : Later) → said_row r i b (n + 1) l ≡ said_of (said_row r i b n l) (point_at (record { real = r; imaginary = i }) n) (get_or b n false)
 unfolding said_row
 row_more r i b n l = sym (turns_step _ n l _ refl)
 
 -- a symbol put after those of the row is taken after them
-over_put : (s : Recovered.Symbols) (f : Found) (l : Later) → RecoveryRanges.Roomy 1 s → over (Recovered.put_of s f) l ≡ said_by f (over s l)
-over_put s Nothing l h = refl
-over_put s (Here z sure) l h =
+over_put : (s : Recovered.Symbols) (f : Option Found) (l : Later) → RecoveryRanges.Roomy 1 s → over (Recovered.put_of s f) l ≡ said_by f (over s l)
+over_put s None l h = refl
+over_put s (Some found) l h =
+    let z = found.symbol in
+    let sure = found.reliable in
     let room = h.room in
     let lr = h.real in
     let li = h.imaginary in
@@ -83,14 +84,14 @@ linked_with l s = record {
 }
 
 -- without a symbol nothing is written, and a symbol is decided and delivered
-heard_linked : (f : Found) (m : ChainState) (r : Recovery.RecoveryState) (d : Later) → slot_at m ≡ Decided.slot_at d.state
+heard_linked : (f : Option Found) (m : ChainState) (r : Recovery.RecoveryState) (d : Later) → slot_at m ≡ Decided.slot_at d.state
     → linked_with (record { state = m; records = d.records; room = d.delivery.room; other = d.other }) (heard_of f r d.state d.second d.delivery.place (record_before d.records (Decided.slot_at d.state))) ≡ joined_lent r (said_by f d)
 unfolding heard_of said_of Delivery.delivered_of
-heard_linked Nothing m r d e =
+heard_linked None m r d e =
     let n : d.delivery.room.written + 0 ≡ d.delivery.room.written = omega arith in
     let o : d.other.written + 0 ≡ d.other.written = omega arith in
     rw (n, o)
-heard_linked (Here z sure) m r d e = rw e
+heard_linked (Some found) m r d e = rw e
 
 module _ (taps derivatives : List Float) where
   abbrev linked_of : Lent → Complex32 → Lent

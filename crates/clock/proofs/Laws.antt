@@ -1,6 +1,6 @@
 -- The place after a symbol in closed form, the clock's ways out, and the clock's theorems: the ring's assertion holds, the first place is never negative,
 -- the count covers what is dropped, and what is admitted stays admitted. Assumes nothing.
-use Rattle.std.specs.Prelude.{◌≡◌, ℕ, zero, suc, ◌+◌, ◌-◌, ◌*◌, ◌%◌, ◌<◌, ◌≤◌, Bool, true, false, cond, not, ◌||◌, ltb, List, ℤ, pos, ◌+ℤ◌, nat_lt, slice_set, unsigned_abs, refl, Float}
+use Rattle.std.specs.Prelude.{◌≡◌, ℕ, zero, suc, ◌+◌, ◌-◌, ◌*◌, ◌%◌, ◌<◌, ◌≤◌, Bool, true, false, cond, not, ◌||◌, ltb, List, Option, Some, None, ℤ, pos, ◌+ℤ◌, nat_lt, slice_set, unsigned_abs, refl, Float}
 use Rattle.std.proofs.Common.{mod-lt, mod-eq_of_lt, arith, sym, ap₂, ◌∙◌, subst, inl, inr, ⊎_elim, true≢false, lt-ltb, le-ltb, ltb-false}
 use Rattle.std.proofs.Math.Nat.{mod-add-mod}
 use Rattle.std.proofs.Math.Path.{ap}
@@ -17,7 +17,6 @@ use Rattle.complex.specs.declared.Complex32.{Complex32}
 use Rattle.filter.specs.Filter.{Windows, matched_of}
 use Rattle.clock.specs.declared.ClockPlace.{ClockPlace}
 use Rattle.clock.specs.declared.Due.{Due}
-use Rattle.clock.specs.declared.Due.TheVariants.{NoSymbol, Symbol}
 use Rattle.clock.specs.declared.Stepped.{Stepped}
 use Rattle.clock.specs.Clock.{fresh_place, thirty_two, minus16, f48, turning_of, drop_one, dropped_of, negative, at_least0, first_of, waiting_of, timed_warm_of, taken_of, warmed_of, timed_of, windows_of, Ticked, ticked_of, ClockStep, with_windows, stepped_of, tenth, minus_tenth, Moving, move_turn, moved_of, updated_of}
 use Rattle.clock.specs.Ranges.{PhaseFits, PhaseTurned, ErrorFits, Admitted, Taken, After}
@@ -84,7 +83,7 @@ first_is c p arm a s h =
 abbrev symbol_with : ClockPlace → ℤ → Float → ℤ → Stepped
 symbol_with c first phase arm = record {
   place = dropped_of (record { start = c.start; count = c.count; position = at_least0 (first +ℤ pos 4); warm = true; phase = phase; rate = c.rate });
-  due = Symbol (unsigned_abs arm) ((c.start + unsigned_abs first) % 256);
+  due = Some (record { arm = unsigned_abs arm; from = (c.start + unsigned_abs first) % 256 });
 }
 
 abbrev warm_with : ClockPlace → ℤ → Float → ℤ → Stepped
@@ -104,10 +103,10 @@ module _ (c : ClockPlace) (p : Float) (arm a n : ℕ) (s : Same p arm a (turning
       cond_yes (nat_lt c.count (n + 33 + 2 * 20)) (waiting_of c) (symbol_with c (pos n) p (pos arm)) k ∙ warm_at
 
   pub warm_due : (z : ClockPlace) → n + 73 ≤ c.count → z ≡ dropped_of (placed p c.rate c.start c.count (n + 4))
-      → ◌≡◌ {A = Stepped} (record { place = z; due = Symbol arm ((c.start + n) % 256) }) (timed_warm_of c)
+      → ◌≡◌ {A = Stepped} (record { place = z; due = Some (record { arm = arm; from = (c.start + n) % 256 }) }) (timed_warm_of c)
   warm_due z l q =
       let k : ltb c.count (n + 33 + 2 * 20) ≡ false = le-ltb c.count (n + 33 + 2 * 20) (omega arith) in
-      ap (λ (z : ClockPlace). record { place = z; due = Symbol arm ((c.start + n) % 256) }) q
+      ap (λ (z : ClockPlace). record { place = z; due = Some (record { arm = arm; from = (c.start + n) % 256 }) }) q
       ∙ cond_no (nat_lt c.count (n + 33 + 2 * 20)) (waiting_of c) (symbol_with c (pos n) p (pos arm)) _ k refl
       ∙ warm_at
 
@@ -222,13 +221,13 @@ update_kept c e f p i =
     record { start = f.start; cold = f.cold; hot = f.hot; phase = k.1; rate = k.0 }
 
 -- so a step, with an update after a symbol, keeps the admitted ranges
-abbrev pub followed_of : Due → ClockPlace → Float → ClockPlace
-followed_of NoSymbol c e = c
-followed_of (Symbol arm from) c e = updated_of c e
+abbrev pub followed_of : Option Due → ClockPlace → Float → ClockPlace
+followed_of None c e = c
+followed_of (Some symbol) c e = updated_of c e
 
-pub followed_kept : (a : Due) (c : ClockPlace) (e : Float) → After a c → ErrorFits e → Admitted (followed_of a c e)
-followed_kept NoSymbol c e h i = h
-followed_kept (Symbol arm from) c e h i = update_kept c e h.0 h.1 i
+pub followed_kept : (a : Option Due) (c : ClockPlace) (e : Float) → After a c → ErrorFits e → Admitted (followed_of a c e)
+followed_kept None c e h i = h
+followed_kept (Some symbol) c e h i = update_kept c e h.0 h.1 i
 
 pub step_update_kept : (c : ClockPlace) (e : Float) → Admitted c → ErrorFits e → Admitted (followed_of (timed_of (taken_of c)).due (timed_of (taken_of c)).place e)
 step_update_kept c e f i = followed_kept (timed_of (taken_of c)).due (timed_of (taken_of c)).place e (timed_kept c f) i
@@ -259,12 +258,12 @@ module _ (taps derivatives : List Float) (c : ClockPlace) (z : Complex32) (re im
   unfolding stepped_of ticked_of
   step_is w h = ap (λ (w : Windows). record { stepped = s; real = real; imaginary = imaginary; windows = w }) h ∙ ap (λ (p : Ticked). with_windows p.stepped taps derivatives p.real p.imaginary before) e
 
-  pub step_waiting : s.due ≡ NoSymbol → ◌≡◌ {A = ClockStep} (record { stepped = s; real = real; imaginary = imaginary; windows = before }) (stepped_of taps derivatives c z re im before)
-  step_waiting a = step_is before (ap (λ (a : Due). windows_of a taps derivatives real imaginary before) (sym a))
+  pub step_waiting : s.due ≡ None → ◌≡◌ {A = ClockStep} (record { stepped = s; real = real; imaginary = imaginary; windows = before }) (stepped_of taps derivatives c z re im before)
+  step_waiting a = step_is before (ap (λ (a : Option Due). windows_of a taps derivatives real imaginary before) (sym a))
 
-  pub step_symbol : (arm from : ℕ) (w : Windows) → s.due ≡ Symbol arm from → w ≡ matched_of taps derivatives real imaginary arm from
+  pub step_symbol : (symbol : Due) (w : Windows) → s.due ≡ Some symbol → w ≡ matched_of taps derivatives real imaginary symbol.arm symbol.from
       → ◌≡◌ {A = ClockStep} (record { stepped = s; real = real; imaginary = imaginary; windows = w }) (stepped_of taps derivatives c z re im before)
-  step_symbol arm from w a h = step_is w (h ∙ ap (λ (a : Due). windows_of a taps derivatives real imaginary before) (sym a))
+  step_symbol symbol w a h = step_is w (h ∙ ap (λ (a : Option Due). windows_of a taps derivatives real imaginary before) (sym a))
 
 -- the place and what is due turn on the place alone
 pub stepped_place : (taps derivatives : List Float) (c : ClockPlace) (z : Complex32) (re im : List Float) (before : Windows) → (stepped_of taps derivatives c z re im before).stepped ≡ timed_of (taken_of c)
@@ -282,5 +281,5 @@ update_is c e p r h k q a b w =
     (ap (λ (m : Moving). m.phase) y) (w ∙ ap (λ (m : Moving). clamp_of m.rate minus_tenth tenth) y)
 
 -- the filter may be run for a symbol
-pub after_symbol : (a : Due) (p : ClockPlace) (arm from : ℕ) → a ≡ Symbol arm from → After a p → (arm < 32) × (from < 256)
-after_symbol a p arm from e h = let k = subst (λ (z : Due). After z p) e h in (k.2, k.3)
+pub after_symbol : (a : Option Due) (p : ClockPlace) (symbol : Due) → a ≡ Some symbol → After a p → (symbol.arm < 32) × (symbol.from < 256)
+after_symbol a p symbol e h = let k = subst (λ (z : Option Due). After z p) e h in (k.2, k.3)

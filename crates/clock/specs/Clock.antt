@@ -1,6 +1,6 @@
 -- Clock recovery, step by step as the Rust has it: a ring of 256 samples, the phase brought into range by two loops, the test whether a symbol's windows are in,
 -- the place after a symbol by a third loop, and the loop's update. Definitions only.
-use Rattle.std.specs.Prelude.{ℕ, ◌+◌, ◌-◌, ◌*◌, ◌%◌, Bool, true, false, cond, not, ◌&&◌, ◌||◌, List, ℤ, pos, negsuc, ◌+ℤ◌, ◌-ℤ◌, ◌==◌, from_bits, nat_le, nat_lt, slice_set, unsigned_abs, Float}
+use Rattle.std.specs.Prelude.{ℕ, ◌+◌, ◌-◌, ◌*◌, ◌%◌, Bool, true, false, cond, not, ◌&&◌, ◌||◌, List, ℤ, pos, negsuc, ◌+ℤ◌, ◌-ℤ◌, Option, Some, None, ◌==◌, from_bits, nat_le, nat_lt, slice_set, unsigned_abs, Float}
 use Rattle.std.specs.Float.{binary32}
 use Rattle.std.specs.Float.Ieee.{add, sub, mul, lt, to_signed}
 use Rattle.laws.specs.Turns.{turns, until}
@@ -11,7 +11,6 @@ use Rattle.complex.specs.declared.Complex32.{Complex32}
 use Rattle.filter.specs.Filter.{Windows, matched_of}
 use Rattle.clock.specs.declared.ClockPlace.{ClockPlace}
 use Rattle.clock.specs.declared.Due.{Due}
-use Rattle.clock.specs.declared.Due.TheVariants.{NoSymbol, Symbol}
 use Rattle.clock.specs.declared.Stepped.{Stepped}
 use Rattle.clock.specs.declared.phase.Arm.{Arm}
 
@@ -80,12 +79,12 @@ unfoldable pub first_of : ClockPlace → ℤ
 first_of c = pos c.position +ℤ (turning_of c.phase).shift
 
 abbrev pub waiting_of : ClockPlace → Stepped
-waiting_of c = record { place = c; due = NoSymbol }
+waiting_of c = record { place = c; due = None }
 
 abbrev pub symbol_of : ClockPlace → Stepped
 symbol_of c = record {
   place = dropped_of (record { start = c.start; count = c.count; position = at_least0 (first_of c +ℤ pos 4); warm = true; phase = (turning_of c.phase).phase; rate = c.rate });
-  due = Symbol (unsigned_abs (turning_of c.phase).arm) ((c.start + unsigned_abs (first_of c)) % 256);
+  due = Some (record { arm = unsigned_abs (turning_of c.phase).arm; from = (c.start + unsigned_abs (first_of c)) % 256 });
 }
 
 -- 21 windows of 33 samples, two apart, have to be in; until then nothing changes
@@ -104,9 +103,9 @@ unfoldable pub timed_of : ClockPlace → Stepped
 timed_of c = cond c.warm (timed_warm_of c) (cond (nat_lt c.count (6 + 33 + 4 + 2 * 20)) (waiting_of c) (timed_warm_of (warmed_of c)))
 
 -- what is due comes to: without a symbol the windows stay as they are; a symbol's are matched with its arm's taps, from its place in the ring on
-abbrev pub windows_of : Due → List Float → List Float → List Float → List Float → Windows → Windows
-windows_of NoSymbol taps derivatives real imaginary before = before
-windows_of (Symbol arm from) taps derivatives real imaginary before = matched_of taps derivatives real imaginary arm from
+abbrev pub windows_of : Option Due → List Float → List Float → List Float → List Float → Windows → Windows
+windows_of None taps derivatives real imaginary before = before
+windows_of (Some symbol) taps derivatives real imaginary before = matched_of taps derivatives real imaginary symbol.arm symbol.from
 
 -- a sample into the ring: place and what is due, and the ring
 pub record Ticked : Type 0 where

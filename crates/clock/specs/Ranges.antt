@@ -1,5 +1,5 @@
 -- The ranges of a clock's place as facts: what is admitted, what holds once a sample is taken, and what a step leaves. Definitions only.
-use Rattle.std.specs.Prelude.{◌≡◌, ℕ, ◌+◌, ◌*◌, ◌<◌, ◌≤◌, true, false, ◌⊎◌, pos, neg_ℤ, Float}
+use Rattle.std.specs.Prelude.{◌≡◌, ℕ, ◌+◌, ◌*◌, ◌<◌, ◌≤◌, true, false, ◌⊎◌, pos, neg_ℤ, Option, Some, None, Float}
 use Rattle.std.specs.Float.{nan}
 use Rattle.std.specs.Float.Ieee.{neg}
 use Rattle.std.specs.Float.Ieee.Positive.{num, den}
@@ -8,7 +8,6 @@ use Rattle.numbers.specs.Constants.{one32, minus_one32, zero32}
 use Rattle.clock.specs.Clock.{arm_number_of, thirty_two, tenth, minus_tenth, minus16, f48}
 use Rattle.clock.specs.declared.ClockPlace.{ClockPlace}
 use Rattle.clock.specs.declared.Due.{Due}
-use Rattle.clock.specs.declared.Due.TheVariants.{NoSymbol, Symbol}
 
 abbrev pub Within : Float → Float → Float → Type 0
 Within low high x = (x ≡ nan) ⊎ In low high x
@@ -45,9 +44,9 @@ pub record Taken (c : ClockPlace) : Type 0 where
   pub rate : RateFits c.rate
 
 -- what a step leaves: an admitted place; with a symbol the phase is in range, and arm and ring place are the filter's
-abbrev pub After : Due → ClockPlace → Type 0
-After NoSymbol c = Admitted c
-After (Symbol arm from) c = Admitted c × PhaseTurned c.phase × (arm < 32) × (from < 256)
+abbrev pub After : Option Due → ClockPlace → Type 0
+After None c = Admitted c
+After (Some symbol) c = Admitted c × PhaseTurned c.phase × (symbol.arm < 32) × (symbol.from < 256)
 
 -- c is the smallest whole number that is not below x, which is in 0..16: so the phase -x has the arm's number -c
 pub record Ceiling (x : Float) (c : ℕ) : Type 0 where

@@ -4,7 +4,6 @@
 #![tactic(auto)]
 
 ghost use Rattle.std.specs.Prelude.{◌≡◌};
-ghost use Rattle.filter.specs.Lends.{Windowed, Given};
 ghost use Rattle.clock.specs.Clock.{fresh_place, counts_fit, admitted_of, stepped_of, updated_of};
 ghost use Rattle.clock.specs.Ranges.{Admitted, After};
 ghost use Rattle.clock.specs.Lends.{Leaves};
@@ -30,18 +29,18 @@ pub struct ClockPlace {
     pub rate: f32,
 }
 
-// No symbol, or a symbol: the arm it is matched with, and the ring's place where its windows begin.
+// A symbol that is due: the arm it is matched with, and the ring's place where its windows begin.
 #[derive(Clone, Copy)]
-pub enum Due {
-    NoSymbol,
-    Symbol(usize, usize),
+pub struct Due {
+    pub arm: usize,
+    pub from: usize,
 }
 
-// The place after a sample, and what is due.
+// The place after a sample, and the symbol that is due, where there is one.
 #[derive(Clone, Copy)]
 pub struct Stepped {
     pub place: ClockPlace,
-    pub due: Due,
+    pub due: Option<Due>,
 }
 
 // A cold clock: nothing in the ring, the phase in the middle of the arms.
@@ -96,15 +95,13 @@ pub fn step<'a>(
     derivative_real: &mut [f32; WINDOWS],
     derivative_imaginary: &mut [f32; WINDOWS],
 ) -> Stepped
-    requires admitted { Admitted c }
-    requires given { Given value_real value_imaginary derivative_real derivative_imaginary Windowed }
+    requires { Admitted c }
     ensures same { Leaves ring_real ring_imaginary value_real value_imaginary derivative_real derivative_imaginary result
         (λ real imaginary windows after. after ≡ stepped_of taps.now derivatives.now c sample real imaginary windows) }
     ensures kept { After result.due result.place }
 {
     let s = ticked(c, sample, ring_real, ring_imaginary);
-    let due = s.due;
-    let Due::Symbol(arm, from) = due else {
+    let Some(symbol) = s.due else {
         return s;
     };
     matched(
@@ -112,8 +109,8 @@ pub fn step<'a>(
         derivatives,
         ring_real,
         ring_imaginary,
-        arm,
-        from,
+        symbol.arm,
+        symbol.from,
         value_real,
         value_imaginary,
         derivative_real,
@@ -138,18 +135,13 @@ pub fn update(c: ClockPlace, error: f32) -> ClockPlace
 {
     let mut phase = c.phase + c.rate;
     let mut rate = c.rate;
-    let mut k: usize = 0;
-    while k < 4 {
+    for _turn in 0..4usize {
         rate = rate + BETA * error;
         phase = phase + (rate + ALPHA * error);
-        k += 1;
     }
     ClockPlace {
-        start: c.start,
-        count: c.count,
-        position: c.position,
-        warm: c.warm,
         phase,
         rate: clamp32(rate, -0.1, 0.1),
+        ..c
     }
 }

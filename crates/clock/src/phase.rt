@@ -31,8 +31,8 @@ fn ceiling(x: f32) -> usize
 
 // Brings a phase in -16..0 into range: it is raised by a turn of 32 arms.
 fn ranged_below(phase: f32) -> Arm
-    requires fact_1 { PhaseFits phase }
-    requires fact_2 { Ieee.lt phase zero32 ≡ true }
+    requires fits { PhaseFits phase }
+    requires below { Ieee.lt phase zero32 ≡ true }
     ensures same { result ≡ ranged_of phase }
     ensures few { result.ahead ≤ 2 }
 {

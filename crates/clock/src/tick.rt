@@ -22,9 +22,9 @@ fn beyond(position: usize) -> usize
 // The place after a symbol whose windows began at `first`: the next begin four samples on, and
 // samples before position 12 are dropped.
 fn moved_on(c: ClockPlace, phase: f32, first: usize) -> ClockPlace
-    requires fact_1 { c.start < 256 }
-    requires fact_2 { first + 73 ≤ c.count }
-    requires fact_3 { first ≤ 13 }
+    requires start_below { c.start < 256 }
+    requires windows_in { first + 73 ≤ c.count }
+    requires first_most { first ≤ 13 }
     ensures { result ≡ dropped_of
         (record { start = c.start; count = c.count; position = first + 4; warm = true; phase = phase; rate = c.rate }) }
 {
@@ -36,7 +36,7 @@ fn moved_on(c: ClockPlace, phase: f32, first: usize) -> ClockPlace
         position: position - dropped,
         warm: true,
         phase,
-        rate: c.rate,
+        ..c
     }
 }
 
@@ -51,21 +51,21 @@ fn timed_warm(c: ClockPlace) -> Stepped
     if c.count < first + 73 {
         return Stepped {
             place: c,
-            due: Due::NoSymbol,
+            due: None,
         };
     }
     let from = (c.start + first) % RING;
     let place = moved_on(c, t.phase, first);
     Stepped {
         place,
-        due: Due::Symbol(t.arm, from),
+        due: Some(Due { arm: t.arm, from }),
     }
 }
 
 // A clock that has taken its sample: it waits, or its symbol is due. A cold one waits until 83 are in.
 fn timed(c: ClockPlace) -> Stepped
-    requires fact_1 { (c.warm ≡ true → Taken c) }
-    requires fact_2 { (c.warm ≡ false → Taken (warmed_of c)) }
+    requires warm_taken { (c.warm ≡ true → Taken c) }
+    requires cold_taken { (c.warm ≡ false → Taken (warmed_of c)) }
     ensures { result ≡ timed_of c }
 {
     if c.warm {
@@ -74,18 +74,14 @@ fn timed(c: ClockPlace) -> Stepped
     if c.count < 83 {
         return Stepped {
             place: c,
-            due: Due::NoSymbol,
+            due: None,
         };
     }
-    let begun = ClockPlace {
-        start: c.start,
-        count: c.count,
+    timed_warm(ClockPlace {
         position: 6,
         warm: true,
-        phase: c.phase,
-        rate: c.rate,
-    };
-    timed_warm(begun)
+        ..c
+    })
 }
 
 // Takes a sample, and says whether a symbol is due.
@@ -102,13 +98,8 @@ pub fn ticked(
     let at = (c.start + c.count) % RING;
     real[at] = sample.real;
     imaginary[at] = sample.imaginary;
-    let taken = ClockPlace {
-        start: c.start,
+    timed(ClockPlace {
         count: c.count + 1,
-        position: c.position,
-        warm: c.warm,
-        phase: c.phase,
-        rate: c.rate,
-    };
-    timed(taken)
+        ..c
+    })
 }

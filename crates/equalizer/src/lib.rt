@@ -57,11 +57,9 @@ pub fn fresh_imaginary() -> [f32; WEIGHTS]
 fn tapped(s: Sums, w: Complex32, x: Complex32, dx: Complex32) -> Sums
     ensures { result ≡ tapped_of s w x dx }
 {
-    let value = s.value;
-    let derivative = s.derivative;
     Sums {
-        value: complex::added(value, complex::multiplied(w, x)),
-        derivative: complex::added(derivative, complex::multiplied(w, dx)),
+        value: complex::added(s.value, complex::multiplied(w, x)),
+        derivative: complex::added(s.derivative, complex::multiplied(w, dx)),
         energy: s.energy + complex::power(x),
     }
 }
@@ -82,8 +80,7 @@ fn tap_sums(
         derivative: complex::zero(),
         energy: 0.0,
     };
-    let mut k = 0;
-    while k < WEIGHTS {
+    for k in 0..WEIGHTS {
         let w = Complex32 {
             real: wr[k],
             imaginary: wi[k],
@@ -97,7 +94,6 @@ fn tap_sums(
             imaginary: di[k],
         };
         s = tapped(s, w, x, dx);
-        k += 1;
     }
     s
 }
@@ -114,13 +110,11 @@ fn adapt(
 )
     ensures { Leaves wr wi (λ w after. Reads xr xi (λ x. after ≡ adapted_of value step x w)) }
 {
-    let mut k = 0;
-    while k < WEIGHTS {
+    for k in 0..WEIGHTS {
         let x = xr[k];
         let y = xi[k];
-        wr[k] = wr[k] + step * (value.real * x + value.imaginary * y);
-        wi[k] = wi[k] + step * (value.imaginary * x - value.real * y);
-        k += 1;
+        wr[k] += step * (value.real * x + value.imaginary * y);
+        wi[k] += step * (value.imaginary * x - value.real * y);
     }
 }
 
@@ -129,12 +123,10 @@ fn norm(wr: &[f32; WEIGHTS], wi: &[f32; WEIGHTS]) -> f32
     ensures { Reads wr wi (λ w. result ≡ norm_of w) }
 {
     let mut sum = 0.0f32;
-    let mut k = 0;
-    while k < WEIGHTS {
+    for k in 0..WEIGHTS {
         let w = wr[k];
         let v = wi[k];
-        sum = sum + (w * w + v * v);
-        k += 1;
+        sum += w * w + v * v;
     }
     sum
 }
@@ -143,11 +135,9 @@ fn norm(wr: &[f32; WEIGHTS], wi: &[f32; WEIGHTS]) -> f32
 fn scale(wr: &mut [f32; WEIGHTS], wi: &mut [f32; WEIGHTS], gain: f32)
     ensures { Leaves wr wi (λ w after. after ≡ scaled_by gain w) }
 {
-    let mut k = 0;
-    while k < WEIGHTS {
-        wr[k] = wr[k] * gain;
-        wi[k] = wi[k] * gain;
-        k += 1;
+    for k in 0..WEIGHTS {
+        wr[k] *= gain;
+        wi[k] *= gain;
     }
 }
 
@@ -188,11 +178,9 @@ fn update(
 )
     ensures { Leaves wr wi (λ w after. Reads xr xi (λ x. after ≡ updated_of s reliable x w)) }
 {
-    let value = s.value;
-    let energy = s.energy;
-    let power = complex::power(value);
-    if learns(reliable, energy, power) {
-        adapt(wr, wi, xr, xi, value, step_of(power, energy));
+    let power = complex::power(s.value);
+    if learns(reliable, s.energy, power) {
+        adapt(wr, wi, xr, xi, s.value, step_of(power, s.energy));
         limit(wr, wi);
     }
 }
@@ -227,9 +215,8 @@ pub fn equalize(
 {
     let s = tap_sums(wr, wi, xr, xi, dr, di);
     update(wr, wi, xr, xi, s, reliable);
-    let value = s.value;
     Equalized {
-        value,
+        value: s.value,
         timing: timing_error(s, reliable),
     }
 }

@@ -1,5 +1,5 @@
 // What the sums run over: one arm's taps, and the ring's samples at even and at odd places apart.
-ghost use Rattle.std.specs.Prelude.{◌≡◌, ◌<◌, ◌≤◌, length};
+ghost use Rattle.std.specs.Prelude.{◌≡◌, ◌<◌, ◌≤◌};
 ghost use Rattle.filter.specs.Filter.{arm_tap, arm_taps_of};
 ghost use Rattle.filter.specs.Fast.{every_second_of};
 
@@ -15,27 +15,21 @@ fn first_tap(table: &[f32; TAPS], arm: usize) -> f32
 
 // The taps of one arm, the table's last first; a place past the table is zero.
 pub fn arm_taps(table: &[f32; TAPS], arm: usize, taps: &mut [f32; ARM])
-    requires fact_1 { arm < 32 }
-    requires fact_2 { length taps.old ≡ 33 }
+    requires { arm < 32 }
     ensures { taps.new ≡ arm_taps_of table.now arm }
 {
     taps[0] = first_tap(table, arm);
-    let mut i = 1;
-    while i < ARM {
+    for i in 1..ARM {
         taps[i] = table[arm + 32 * (32 - i)];
-        i += 1;
     }
 }
 
 // Every second one of the 74 samples from `from` on.
 pub fn every_second(ring: &[f32; RING], from: usize, out: &mut [f32; HALF])
-    requires fact_1 { from ≤ 256 }
-    requires fact_2 { length out.old ≡ 37 }
+    requires { from ≤ 256 }
     ensures { out.new ≡ every_second_of ring.now from }
 {
-    let mut j = 0;
-    while j < HALF {
+    for j in 0..HALF {
         out[j] = ring[(from + 2 * j) % RING];
-        j += 1;
     }
 }

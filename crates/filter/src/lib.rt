@@ -5,7 +5,7 @@
 
 ghost use Rattle.std.specs.Prelude.{◌≡◌, ◌<◌, ◌≤◌};
 ghost use Rattle.filter.specs.Filter.{windows_with, matched_of};
-ghost use Rattle.filter.specs.Lends.{Windowed, Given, Leaves};
+ghost use Rattle.filter.specs.Lends.{Leaves};
 ghost use Rattle.filter.specs.Fast.{woven, put_of, group_of};
 
 mod gather;
@@ -30,6 +30,20 @@ pub const WINDOWS: usize = 21;
 // The samples at even places among the 74 that the windows reach, or at odd ones.
 const HALF: usize = 37;
 
+// Samples at even places, or at odd ones, part by part.
+#[derive(Drop)]
+struct Samples {
+    real: [f32; HALF],
+    imaginary: [f32; HALF],
+}
+
+// The taps of one arm, and its derivatives.
+#[derive(Drop)]
+struct ArmTaps {
+    taps: [f32; ARM],
+    derivatives: [f32; ARM],
+}
+
 // Four stores from place k on.
 fn put(out: &mut [f32; WINDOWS], k: usize, a: f32, b: f32, c: f32, d: f32)
     requires { k ≤ 17 }
@@ -52,72 +66,54 @@ fn group(g: usize) -> usize
 
 // All windows, four at a time.
 fn windows(
-    even_real: &[f32; HALF],
-    odd_real: &[f32; HALF],
-    even_imaginary: &[f32; HALF],
-    odd_imaginary: &[f32; HALF],
-    taps: &[f32; ARM],
-    derivative_taps: &[f32; ARM],
+    even: &Samples,
+    odd: &Samples,
+    arm: &ArmTaps,
     value_real: &mut [f32; WINDOWS],
     value_imaginary: &mut [f32; WINDOWS],
     derivative_real: &mut [f32; WINDOWS],
     derivative_imaginary: &mut [f32; WINDOWS],
 )
-    requires { Given value_real value_imaginary derivative_real derivative_imaginary Windowed }
     ensures { Leaves value_real value_imaginary derivative_real derivative_imaginary (λ _ after. after ≡ windows_with
-        (woven even_real.now odd_real.now)
-        (woven even_imaginary.now odd_imaginary.now)
-        taps.now derivative_taps.now) }
+        (woven even.now.real odd.now.real)
+        (woven even.now.imaginary odd.now.imaginary)
+        arm.now.taps arm.now.derivatives) }
 {
-    let mut g = 0;
-    while g < 6 {
+    for g in 0..6 {
         let k = group(g);
-        let s = four_sums(
-            even_real,
-            odd_real,
-            even_imaginary,
-            odd_imaginary,
-            k,
-            taps,
-            derivative_taps,
-        );
-        let a = s.first;
-        let b = s.second;
-        let c = s.third;
-        let d = s.fourth;
+        let s = four_sums(even, odd, k, arm);
         put(
             value_real,
             k,
-            a.value.real,
-            b.value.real,
-            c.value.real,
-            d.value.real,
+            s.first.value.real,
+            s.second.value.real,
+            s.third.value.real,
+            s.fourth.value.real,
         );
         put(
             value_imaginary,
             k,
-            a.value.imaginary,
-            b.value.imaginary,
-            c.value.imaginary,
-            d.value.imaginary,
+            s.first.value.imaginary,
+            s.second.value.imaginary,
+            s.third.value.imaginary,
+            s.fourth.value.imaginary,
         );
         put(
             derivative_real,
             k,
-            a.derivative.real,
-            b.derivative.real,
-            c.derivative.real,
-            d.derivative.real,
+            s.first.derivative.real,
+            s.second.derivative.real,
+            s.third.derivative.real,
+            s.fourth.derivative.real,
         );
         put(
             derivative_imaginary,
             k,
-            a.derivative.imaginary,
-            b.derivative.imaginary,
-            c.derivative.imaginary,
-            d.derivative.imaginary,
+            s.first.derivative.imaginary,
+            s.second.derivative.imaginary,
+            s.third.derivative.imaginary,
+            s.fourth.derivative.imaginary,
         );
-        g += 1;
     }
 }
 
@@ -134,31 +130,33 @@ pub fn matched<'a>(
     derivative_real: &mut [f32; WINDOWS],
     derivative_imaginary: &mut [f32; WINDOWS],
 )
-    requires arm_bound_1 { arm < 32 }
-    requires arm_bound_2 { from < 256 }
-    requires given { Given value_real value_imaginary derivative_real derivative_imaginary Windowed }
+    requires arm_below { arm < 32 }
+    requires from_below { from < 256 }
     ensures { Leaves value_real value_imaginary derivative_real derivative_imaginary (λ _ after. after ≡ matched_of
         taps.now derivatives.now ring_real.now ring_imaginary.now arm from) }
 {
-    let mut arm_values = [0.0; ARM];
-    let mut arm_derivatives = [0.0; ARM];
-    arm_taps(taps, arm, &mut arm_values);
-    arm_taps(derivatives, arm, &mut arm_derivatives);
-    let mut even_real = [0.0; HALF];
-    let mut odd_real = [0.0; HALF];
-    let mut even_imaginary = [0.0; HALF];
-    let mut odd_imaginary = [0.0; HALF];
-    every_second(ring_real, from, &mut even_real);
-    every_second(ring_real, from + 1, &mut odd_real);
-    every_second(ring_imaginary, from, &mut even_imaginary);
-    every_second(ring_imaginary, from + 1, &mut odd_imaginary);
+    let mut row = ArmTaps {
+        taps: [0.0; ARM],
+        derivatives: [0.0; ARM],
+    };
+    arm_taps(taps, arm, &mut row.taps);
+    arm_taps(derivatives, arm, &mut row.derivatives);
+    let mut even = Samples {
+        real: [0.0; HALF],
+        imaginary: [0.0; HALF],
+    };
+    let mut odd = Samples {
+        real: [0.0; HALF],
+        imaginary: [0.0; HALF],
+    };
+    every_second(ring_real, from, &mut even.real);
+    every_second(ring_real, from + 1, &mut odd.real);
+    every_second(ring_imaginary, from, &mut even.imaginary);
+    every_second(ring_imaginary, from + 1, &mut odd.imaginary);
     windows(
-        &even_real,
-        &odd_real,
-        &even_imaginary,
-        &odd_imaginary,
-        &arm_values,
-        &arm_derivatives,
+        &even,
+        &odd,
+        &row,
         value_real,
         value_imaginary,
         derivative_real,

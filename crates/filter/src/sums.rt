@@ -2,7 +2,7 @@
 ghost use Rattle.std.specs.Prelude.{◌≡◌, ◌+◌, ◌<◌, ◌≤◌};
 ghost use Rattle.filter.specs.Fast.{summed_of, tapped_of, tapped_four, no_four, four_of, woven};
 
-use super::{ARM, HALF};
+use super::{ArmTaps, Samples};
 use complex::Complex32;
 
 // The running sums of one window.
@@ -41,36 +41,35 @@ fn tapped(s: Sums, real: f32, imaginary: f32, tap: f32, derivative_tap: f32) -> 
 }
 
 // The four windows' sums with one tap more, on the samples at, at + 1, at + 2, at + 3.
-fn tapped_four(
-    s: Four,
-    real: &[f32; HALF],
-    imaginary: &[f32; HALF],
-    at: usize,
-    tap: f32,
-    derivative_tap: f32,
-) -> Four
+fn tapped_four(s: Four, samples: &Samples, at: usize, tap: f32, derivative_tap: f32) -> Four
     requires { at + 3 < 37 }
-    ensures { result ≡ tapped_four s real.now imaginary.now at tap derivative_tap }
+    ensures { result ≡ tapped_four s samples.now.real samples.now.imaginary at tap derivative_tap }
 {
-    let first = tapped(s.first, real[at], imaginary[at], tap, derivative_tap);
+    let first = tapped(
+        s.first,
+        samples.real[at],
+        samples.imaginary[at],
+        tap,
+        derivative_tap,
+    );
     let second = tapped(
         s.second,
-        real[at + 1],
-        imaginary[at + 1],
+        samples.real[at + 1],
+        samples.imaginary[at + 1],
         tap,
         derivative_tap,
     );
     let third = tapped(
         s.third,
-        real[at + 2],
-        imaginary[at + 2],
+        samples.real[at + 2],
+        samples.imaginary[at + 2],
         tap,
         derivative_tap,
     );
     let fourth = tapped(
         s.fourth,
-        real[at + 3],
-        imaginary[at + 3],
+        samples.real[at + 3],
+        samples.imaginary[at + 3],
         tap,
         derivative_tap,
     );
@@ -100,47 +99,22 @@ fn no_sums() -> Four
 }
 
 // The sums of the windows k, k + 1, k + 2, k + 3.
-pub fn four_sums(
-    even_real: &[f32; HALF],
-    odd_real: &[f32; HALF],
-    even_imaginary: &[f32; HALF],
-    odd_imaginary: &[f32; HALF],
-    k: usize,
-    taps: &[f32; ARM],
-    derivative_taps: &[f32; ARM],
-) -> Four
+pub fn four_sums(even: &Samples, odd: &Samples, k: usize, arm: &ArmTaps) -> Four
     requires { k ≤ 17 }
-    ensures { result ≡ four_of (woven even_real.now odd_real.now)
-        (woven even_imaginary.now odd_imaginary.now)
-        taps.now derivative_taps.now k 33 }
+    ensures { result ≡ four_of (woven even.now.real odd.now.real)
+        (woven even.now.imaginary odd.now.imaginary)
+        arm.now.taps arm.now.derivatives k 33 }
 {
     let mut s = no_sums();
-    let mut j = 0;
-    while j < 16 {
+    for j in 0..16 {
+        s = tapped_four(s, even, k + j, arm.taps[2 * j], arm.derivatives[2 * j]);
         s = tapped_four(
             s,
-            even_real,
-            even_imaginary,
+            odd,
             k + j,
-            taps[2 * j],
-            derivative_taps[2 * j],
+            arm.taps[2 * j + 1],
+            arm.derivatives[2 * j + 1],
         );
-        s = tapped_four(
-            s,
-            odd_real,
-            odd_imaginary,
-            k + j,
-            taps[2 * j + 1],
-            derivative_taps[2 * j + 1],
-        );
-        j += 1;
     }
-    tapped_four(
-        s,
-        even_real,
-        even_imaginary,
-        k + 16,
-        taps[32],
-        derivative_taps[32],
-    )
+    tapped_four(s, even, k + 16, arm.taps[32], arm.derivatives[32])
 }

@@ -1,6 +1,6 @@
 -- What the peak keeper's planes hold: an envelope has no sign, and a new value renews one envelope. The test of a place passes exactly where its ranges hold,
 -- and a value keeps them. Assumes nothing.
-use Rattle.std.specs.Prelude.{◌≡◌, ℕ, ◌+◌, ◌*◌, ◌%◌, ◌≤◌, ◌<◌, Bool, cond, List, T, leb, eqb, length, get_or, set, Float}
+use Rattle.std.specs.Prelude.{◌≡◌, ℕ, ◌+◌, ◌*◌, ◌%◌, ◌≤◌, ◌<◌, Bool, cond, List, Some, None, T, leb, eqb, length, get_or, set, Float}
 use Rattle.std.proofs.Math.Path.{refl}
 use Rattle.std.proofs.Common.{sym, ap, ◌∙◌, subst, eqb→eq, ltb→lt, lt→ltb, leb→le, le→leb, length-set, get_or-set_same, get_or-set_other}
 use Rattle.std.proofs.Math.Nat.{mod-lt}
@@ -19,7 +19,6 @@ use borrow.Author.Tests.{lt-ltb, le-ltb, ltb-true}
 use Rattle.complex.specs.Complex.{scaled_of}
 use Rattle.peak.specs.declared.KeeperPlace.{KeeperPlace}
 use Rattle.peak.specs.declared.Kept.{Kept}
-use Rattle.peak.specs.declared.Level.TheVariants.{Filling, At}
 use Rattle.peak.specs.Peak.{fresh_place, admitted_of, Admitted, Ring, KeeperStep, smaller_share, envelope_of, envelopes_of, peak_of, followed_of, floor_of, gain_of, reliable_of, levelled_of, oldest_of, put_in, kept_of}
 use Rattle.peak.proofs.Sizes.{Unsigned, none, some}
 use Rattle.peak.specs.Columns.{highest_of}
@@ -138,7 +137,7 @@ envelopes_set real imaginary at x y h r i = whole ∙ sym opened
 -- ---- what the code makes of its calls
 pub levelled_is : (head : ℕ) (reference peak : Float) (oldest : Complex32) (next least g : Float) (value : Complex32) (reliable : Bool)
     → next ≡ followed_of peak reference → least ≡ floor_of next → g ≡ gain_of peak least → value ≡ scaled_of oldest g → reliable ≡ reliable_of peak least
-    → ◌≡◌ {A = Kept} (record { place = record { head = head; fill = 64; reference = next }; level = At value reliable }) (levelled_of head reference oldest peak)
+    → ◌≡◌ {A = Kept} (record { place = record { head = head; fill = 64; reference = next }; level = Some (record { value = value; reliable = reliable }) }) (levelled_of head reference oldest peak)
 unfolding levelled_of
 levelled_is head reference peak oldest next least g value reliable n l e v r = rw (r, v, e, l, n)
 
@@ -150,7 +149,7 @@ module _ (place : KeeperPlace) (z : Complex32) (real imaginary : List Float) whe
   next = put_in ring place.head z
 
   pub keep_filling : (n : ℕ) → place.fill < 63 → n ≡ place.fill + 1
-      → ◌≡◌ {A = KeeperStep} (record { kept = record { place = record { head = (place.head + 1) % 64; fill = n; reference = place.reference }; level = Filling }; ring = next }) (kept_of place z ring)
+      → ◌≡◌ {A = KeeperStep} (record { kept = record { place = record { head = (place.head + 1) % 64; fill = n; reference = place.reference }; level = None }; ring = next }) (kept_of place z ring)
   unfolding kept_of
   keep_filling n h e = rw (lt-ltb place.fill 63 h, e)
 
@@ -191,6 +190,6 @@ module _ (p : KeeperPlace) (z : Complex32) (ring : Ring) where
   unfolding kept_of levelled_of
   kept_admitted a = go (ltb p.fill 63) refl
     where
-      go : (b : Bool) → ltb p.fill 63 ≡ b → Admitted (cond {A = Kept} b (record { place = record { head = head_after; fill = p.fill + 1; reference = p.reference }; level = Filling }) kept_full).place
+      go : (b : Bool) → ltb p.fill 63 ≡ b → Admitted (cond {A = Kept} b (record { place = record { head = head_after; fill = p.fill + 1; reference = p.reference }; level = None }) kept_full).place
       go true e = let k = ltb-true p.fill 63 e in record { head = mod-lt (p.head + 1) (omega arith); fill = omega arith }
       go false e = record { head = mod-lt (p.head + 1) (omega arith); fill = omega arith }

@@ -1,5 +1,5 @@
 -- The peak keeper, as the Rust's symbol chain has it. Definitions only.
-use Rattle.std.specs.Prelude.{ℕ, ◌+◌, ◌%◌, ◌<◌, ◌≤◌, Bool, ◌&&◌, cond, List, ltb, leb, get_or, set, Float}
+use Rattle.std.specs.Prelude.{ℕ, ◌+◌, ◌%◌, ◌<◌, ◌≤◌, Bool, ◌&&◌, cond, List, Option, Some, None, ltb, leb, get_or, set, Float}
 use Rattle.std.specs.Float.{nan, binary32}
 use Rattle.std.specs.Float.Ieee.{of_bits, add, mul, div, lt, le}
 use Rattle.laws.specs.Turns.{turns}
@@ -10,7 +10,6 @@ use Rattle.complex.specs.declared.Complex32.{Complex32}
 use Rattle.complex.specs.Complex.{scaled_of}
 use Rattle.peak.specs.declared.KeeperPlace.{KeeperPlace}
 use Rattle.peak.specs.declared.Kept.{Kept}
-use Rattle.peak.specs.declared.Level.TheVariants.{Filling, At}
 
 abbrev pub fresh_place : KeeperPlace
 fresh_place = record { head = 0; fill = 0; reference = zero32 }
@@ -98,7 +97,7 @@ unfolding followed_of floor_of gain_of reliable_of
 levelled_of head reference oldest peak =
     let r = followed_of peak reference in
     let floor = floor_of r in
-    record { place = record { head = head; fill = 64; reference = r }; level = At (scaled_of oldest (gain_of peak floor)) (reliable_of peak floor) }
+    record { place = record { head = head; fill = 64; reference = r }; level = Some (record { value = scaled_of oldest (gain_of peak floor); reliable = reliable_of peak floor }) }
 
 -- what a value leaves: place and level, and the ring
 pub record KeeperStep : Type 0 where
@@ -113,7 +112,7 @@ kept_of place z ring =
     record {
       kept =
           cond (ltb place.fill 63)
-          (record { place = record { head = head; fill = place.fill + 1; reference = place.reference }; level = Filling })
+          (record { place = record { head = head; fill = place.fill + 1; reference = place.reference }; level = None })
           (levelled_of head place.reference (oldest_of next head) (peak_of (envelopes_of next.real next.imaginary)));
       ring = next;
     }

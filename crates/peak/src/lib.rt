@@ -3,7 +3,7 @@
 // planes, with the values' envelopes in a third, so that only the newest is worked out anew.
 #![tactic(auto)]
 
-ghost use Rattle.std.specs.Prelude.{◌≡◌, ◌<◌, length};
+ghost use Rattle.std.specs.Prelude.{◌≡◌, ◌<◌};
 ghost use Rattle.peak.specs.Lends.{Leaves};
 ghost use Rattle.peak.specs.Peak.{KeeperStep, fresh_place, admitted_of, envelope_of, envelopes_of, top_of, followed_of, floor_of, gain_of, reliable_of, levelled_of, kept_of};
 ghost use Rattle.peak.specs.Columns.{column_of, columns_of, quarter_of, highest_of};
@@ -25,17 +25,18 @@ pub struct KeeperPlace {
     pub reference: f32,
 }
 
-// Still filling, or the oldest value at its gain and whether it is reliable.
+// The oldest value at its gain, and whether it is reliable.
 #[derive(Clone, Copy)]
-pub enum Level {
-    Filling,
-    At(Complex32, bool),
+pub struct Level {
+    pub value: Complex32,
+    pub reliable: bool,
 }
 
+// The place after a value, and the level; there is none while the keeper still fills.
 #[derive(Clone, Copy)]
 pub struct Kept {
     pub place: KeeperPlace,
-    pub level: Level,
+    pub level: Option<Level>,
 }
 
 // A keeper that holds nothing.
@@ -67,13 +68,10 @@ fn envelope(real: f32, imaginary: f32) -> f32
 
 // The envelopes of a ring's values.
 pub fn envelopes(real: &[f32; VALUES], imaginary: &[f32; VALUES], out: &mut [f32; VALUES])
-    requires { length out.old ≡ 64 }
     ensures { out.new ≡ envelopes_of real.now imaginary.now }
 {
-    let mut k = 0;
-    while k < VALUES {
+    for k in 0..VALUES {
         out[k] = envelope(real[k], imaginary[k]);
-        k += 1;
     }
 }
 
@@ -94,13 +92,10 @@ fn column(e: &[f32; VALUES], k: usize) -> f32
 
 // The peaks of all columns.
 fn columns(e: &[f32; VALUES], peaks: &mut [f32; COLUMNS])
-    requires { length peaks.old ≡ 16 }
     ensures { peaks.new ≡ columns_of e.now }
 {
-    let mut k = 0;
-    while k < COLUMNS {
+    for k in 0..COLUMNS {
         peaks[k] = column(e, k);
-        k += 1;
     }
 }
 
@@ -158,14 +153,19 @@ fn levelled(head: usize, reference: f32, oldest: Complex32, peak: f32) -> Kept
 {
     let next = followed(peak, reference);
     let least = floor(next);
-    let value = scaled(oldest, gain(peak, least));
-    let level = Level::At(value, is_reliable(peak, least));
+    let level = Level {
+        value: scaled(oldest, gain(peak, least)),
+        reliable: is_reliable(peak, least),
+    };
     let place = KeeperPlace {
         head,
         fill: VALUES,
         reference: next,
     };
-    Kept { place, level }
+    Kept {
+        place,
+        level: Some(level),
+    }
 }
 
 // One value more, in the place of the oldest. The third plane holds the envelopes of the first two,
@@ -178,8 +178,6 @@ pub fn keep(
     sizes: &mut [f32; VALUES],
 ) -> Kept
     requires head_bound { place.head < 64 }
-    requires real_len { length real.old ≡ 64 }
-    requires imaginary_len { length imaginary.old ≡ 64 }
     requires sizes_value { sizes.old ≡ envelopes_of real.old imaginary.old }
     ensures same { Leaves real imaginary (λ ring after. ◌≡◌ {A = KeeperStep} (record { kept = result; ring = after }) (kept_of place value ring)) }
     ensures envelopes { sizes.new ≡ envelopes_of real.new imaginary.new }
@@ -193,11 +191,11 @@ pub fn keep(
         let filling = KeeperPlace {
             head,
             fill: place.fill + 1,
-            reference: place.reference,
+            ..place
         };
         return Kept {
             place: filling,
-            level: Level::Filling,
+            level: None,
         };
     }
     let oldest = Complex32 {

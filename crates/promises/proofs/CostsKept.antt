@@ -1,5 +1,5 @@
 -- From an accepted setup, through any calls, each of the detector's 64 costs stays within 0 to 48, exactly in f32 and whatever the samples are; and so does each of the second detector's from its enabling on. Assumes nothing.
-use Rattle.std.specs.Prelude.{◌≡◌, refl, Bool, true, cond, ℕ, ◌<◌, eqb, ℤ, get_or, Float}
+use Rattle.std.specs.Prelude.{◌≡◌, refl, Bool, true, cond, ℕ, ◌<◌, eqb, ℤ, get_or, Option, Some, None, Float}
 use Rattle.std.proofs.Math.Path.{sym, subst}
 use Rattle.std.proofs.Common.{◌∙◌, eqb-true}
 use Rattle.std.proofs.Math.Bool.{false}
@@ -20,7 +20,6 @@ use Rattle.sequence.specs.Theorems.{costs_stepped}
 use Rattle.carrier.specs.Carrier as carrier
 use Rattle.lms_carrier.specs.Carrier as lms_carrier
 use Rattle.recovery.specs.declared.step.Found.{Found}
-use Rattle.recovery.specs.declared.step.Found.TheVariants.{Nothing, Here}
 use Rattle.recovery.specs.Recovery as recovery
 use Rattle.decisions.specs.Decisions as decisions
 use Rattle.answers.specs.Observed.{record_before}
@@ -52,11 +51,11 @@ abbrev GoodCosts : List Float → Type 0
 GoodCosts costs = Good (λ s. get_or costs s nan)
 
 -- ---- a value: the costs stay as they are, or the trellis takes a step
-heard_keeps : (f : Found) (r : recovery.RecoveryState) (d : decisions.DecisionsState) (s : SecondState) (p : DeliveryPlace) (oldest : Soft) → GoodCosts d.costs → GoodCosts (heard_of f r d s p oldest).state.costs
+heard_keeps : (f : Option Found) (r : recovery.RecoveryState) (d : decisions.DecisionsState) (s : SecondState) (p : DeliveryPlace) (oldest : Soft) → GoodCosts d.costs → GoodCosts (heard_of f r d s p oldest).state.costs
 unfolding heard_of decisions.decided_of lms_carrier.carried_of lms_detector.detected_of lms_detector.detected_with
-heard_keeps Nothing r d s p oldest g = g
-heard_keeps (Here z reliable) r d s p oldest g =
-    costs_stepped d.place.carrier.detector (carrier.corrected_of d.place.carrier.turn z) reliable oldest d.channels d.costs d.parents g
+heard_keeps None r d s p oldest g = g
+heard_keeps (Some found) r d s p oldest g =
+    costs_stepped d.place.carrier.detector (carrier.corrected_of d.place.carrier.turn found.symbol) found.reliable oldest d.channels d.costs d.parents g
 
 module _ (taps derivatives : List Float) where
   step_keeps : (s : ChainState) (z : Complex32) (oldest : Soft) → GoodCosts s.costs → GoodCosts (stepped_of taps derivatives s z oldest).state.costs
@@ -101,16 +100,16 @@ pub costs_kept : (rate offset : Float) (profile : ℤ) (table : List Float) → 
 costs_kept rate offset profile table h cs s l = (calls_keep (setup_of rate offset profile table).receiver cs (setup_keeps rate offset profile table h)).ranged s l
 
 -- ---- THE SECOND STREAM'S COSTS, from enabling on
-heard_keeps_second : (f : Found) (r : recovery.RecoveryState) (d : decisions.DecisionsState) (s : SecondState) (p : DeliveryPlace) (oldest : Soft) → GoodCosts s.costs → GoodCosts (heard_of f r d s p oldest).state.second.costs
-heard_keeps_second Nothing r d s p oldest g = unfold heard_of in g
-heard_keeps_second (Here z reliable) r d s p oldest g = unfold heard_of in unfold other_of in go s.enabled
+heard_keeps_second : (f : Option Found) (r : recovery.RecoveryState) (d : decisions.DecisionsState) (s : SecondState) (p : DeliveryPlace) (oldest : Soft) → GoodCosts s.costs → GoodCosts (heard_of f r d s p oldest).state.second.costs
+heard_keeps_second None r d s p oldest g = unfold heard_of in g
+heard_keeps_second (Some found) r d s p oldest g = unfold heard_of in unfold other_of in go s.enabled
   where
-    stepped : GoodCosts (second.decided_of s z reliable).state.costs
+    stepped : GoodCosts (second.decided_of s found.symbol found.reliable).state.costs
     stepped =
         unfold second.decided_of in unfold drift_carrier.carried_of in unfold drift_detector.detected_of in unfold drift_detector.detected_with in
-        costs_stepped s.carrier.detector (carrier.corrected_of s.carrier.turn z) reliable (record_before s.records (second.slot_at s)) (drift_detector.ready_of s.memory reliable).channels s.costs s.parents g
+        costs_stepped s.carrier.detector (carrier.corrected_of s.carrier.turn found.symbol) found.reliable (record_before s.records (second.slot_at s)) (drift_detector.ready_of s.memory found.reliable).channels s.costs s.parents g
 
-    go : (b : Bool) → GoodCosts (cond b (second.decided_of s z reliable) (record { state = s; answer = (decisions.decided_of d z reliable oldest).answer })).state.costs
+    go : (b : Bool) → GoodCosts (cond b (second.decided_of s found.symbol found.reliable) (record { state = s; answer = (decisions.decided_of d found.symbol found.reliable oldest).answer })).state.costs
     go true = stepped
     go false = g
 

@@ -1,6 +1,6 @@
 -- The counts of a state: symbols is the number of dibits delivered since setup, and locked the number of those delivered under lock; from a state handed in both
 -- count on from its values. Assumes nothing.
-use Rattle.std.specs.Prelude.{◌≡◌, refl, Bool, true, false, cond, ℕ, ◌+◌, eqb, ℤ, Float}
+use Rattle.std.specs.Prelude.{◌≡◌, refl, Bool, true, false, cond, ℕ, ◌+◌, eqb, ℤ, Option, Some, None, Float}
 use Rattle.std.proofs.Common.{sym, ◌∙◌, subst, eqb-true}
 use Rattle.std.proofs.Math.Path.{ap}
 use mathlib.Core.List.{List, [], ◌∷◌, ◌++◌}
@@ -16,7 +16,6 @@ use Rattle.answers.specs.Observed.{record_before}
 use Rattle.lms_carrier.specs.Carrier as lms_carrier
 use Rattle.labels.specs.Labels.{rearranges, labelled_of, counted_of}
 use Rattle.recovery.specs.declared.step.Found.{Found}
-use Rattle.recovery.specs.declared.step.Found.TheVariants.{Nothing, Here}
 use Rattle.recovery.specs.Recovery as recovery
 use Rattle.decisions.specs.Decisions as decisions
 use Rattle.answer_row.specs.AnswerRow.{is_dibit}
@@ -55,17 +54,17 @@ answer_counts n (Dibit d h l) true true = refl
 answer_counts n (Dibit d h l) true false = refl
 answer_counts n (Dibit d h l) false rearranged = omega arith
 
-heard_counts : (f : Found) (s : ChainState) (r : recovery.RecoveryState) (oldest : Soft) → Counting s (heard_of f r (decisions_of s) s.second (chain.delivery_of s.place) oldest)
+heard_counts : (f : Option Found) (s : ChainState) (r : recovery.RecoveryState) (oldest : Soft) → Counting s (heard_of f r (decisions_of s) s.second (chain.delivery_of s.place) oldest)
 unfolding heard_of decisions.decided_of delivery.told_of
-heard_counts Nothing s r oldest = record { symbols = omega arith; locked = none (is_locked (heard_of Nothing r (decisions_of s) s.second (chain.delivery_of s.place) oldest)) s.place.locked }
+heard_counts None s r oldest = record { symbols = omega arith; locked = none (is_locked (heard_of None r (decisions_of s) s.second (chain.delivery_of s.place) oldest)) s.place.locked }
   where
     none : (b : Bool) (n : ℕ) → n ≡ n + length (cond b (delivery_of Quiet) [])
     none true n = omega arith
     none false n = omega arith
-heard_counts (Here z reliable) s r oldest =
-    let c = (lms_carrier.carried_of s.place.carrier z reliable oldest s.channels s.costs s.parents).carried in
+heard_counts (Some found) s r oldest =
+    let c = (lms_carrier.carried_of s.place.carrier found.symbol found.reliable oldest s.channels s.costs s.parents).carried in
     let rearranged = rearranges s.place.profile in
-    let told = paired_of c.answer (is_dibit (other_of s.second c.answer z reliable).answer) in
+    let told = paired_of c.answer (is_dibit (other_of s.second c.answer found.symbol found.reliable).answer) in
     record {
       symbols = answer_counts s.place.symbols told true rearranged;
       locked = answer_counts s.place.locked told c.place.turn.locked rearranged;

@@ -1,5 +1,5 @@
 -- What a block delivers: a list that depends on the state, the table and the samples, and not on the rooms. An accepted block lays it at their start. Assumes nothing.
-use Rattle.std.specs.Prelude.{◌≡◌, Bool, ℕ, ◌+◌, ◌*◌, ◌≤◌, eqb, drop, Float}
+use Rattle.std.specs.Prelude.{◌≡◌, Bool, ℕ, ◌+◌, ◌*◌, ◌≤◌, eqb, drop, Option, Some, None, Float}
 use Rattle.std.proofs.Math.Path.{refl, sym, ap}
 use Rattle.std.proofs.Common.{◌∙◌, eqb-true}
 use Rattle.std.proofs.Math.Bool.{true, false}
@@ -17,7 +17,6 @@ use Rattle.answers.specs.Observed.{record_before}
 use Rattle.answer_row.specs.AnswerRow.{is_dibit}
 use Rattle.labels.specs.Labels.{rearranges, labelled_of}
 use Rattle.recovery.specs.declared.step.Found.{Found}
-use Rattle.recovery.specs.declared.step.Found.TheVariants.{Nothing, Here}
 use Rattle.recovery.specs.Recovery as recovery
 use Rattle.decisions.specs.Decisions as decisions
 use Rattle.second.specs.Second.{SecondState, other_of}
@@ -156,12 +155,12 @@ module _ (taps derivatives : List Float) where
       labelled (Dibit d h l) (Dibit e i m) true = refl
       labelled (Dibit d h l) (Dibit e i m) false = refl
 
-      heard : (f : Found) (r : recovery.RecoveryState) (d : decisions.DecisionsState) (q : SecondState) (p : DeliveryPlace) (oldest : Soft)
+      heard : (f : Option Found) (r : recovery.RecoveryState) (d : decisions.DecisionsState) (q : SecondState) (p : DeliveryPlace) (oldest : Soft)
           → length (other_delivery_of (heard_of f r d q p oldest).outcome) ≡ length (delivery_of (heard_of f r d q p oldest).outcome)
-      heard Nothing r d q p oldest = unfold heard_of in refl
-      heard (Here y reliable) r d q p oldest =
+      heard None r d q p oldest = unfold heard_of in refl
+      heard (Some found) r d q p oldest =
           unfold heard_of in unfold delivery.told_of in
-          (let first = decisions.decided_of d y reliable oldest in labelled first.answer (other_of q first.answer y reliable).answer (rearranges p.profile))
+          (let first = decisions.decided_of d found.symbol found.reliable oldest in labelled first.answer (other_of q first.answer found.symbol found.reliable).answer (rearranges p.profile))
 
   pub as_many : (values : List Complex32) (s : ChainState) (records : List Slot) → length (other_deliveries taps derivatives values s records) ≡ length (deliveries taps derivatives values s records)
   unfolding delivered_by

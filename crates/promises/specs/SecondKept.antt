@@ -1,12 +1,11 @@
 -- The second stream through a list of values: it stays enabled or not, and its arrays keep their sizes. Assumes nothing.
-use Rattle.std.specs.Prelude.{◌≡◌, Bool, true, false, length, Float}
+use Rattle.std.specs.Prelude.{◌≡◌, Bool, true, false, length, Option, Some, None, Float}
 use Rattle.std.proofs.Math.Path.{refl}
 use Rattle.std.proofs.Common.{sym, ◌∙◌, subst, arith, length-append}
 use mathlib.Core.List.{List, [], ◌∷◌}
 use Rattle.complex.specs.declared.Complex32.{Complex32}
 use Rattle.answers.specs.declared.soft.Soft.{Soft}
 use Rattle.recovery.specs.declared.step.Found.{Found}
-use Rattle.recovery.specs.declared.step.Found.TheVariants.{Nothing, Here}
 use Rattle.recovery.specs.Recovery as recovery
 use Rattle.decisions.specs.Decisions as decisions
 use Rattle.drift_tracker.specs.Drift.{Memory}
@@ -25,10 +24,10 @@ pub joined_length : (m : Memory) (costs : List Float) → length m.channels.real
 unfolding joined_of
 joined_length m costs a b c d e = simp length-append (omega arith)
 
-heard_enabled : (f : Found) (r : recovery.RecoveryState) (d : decisions.DecisionsState) (s : SecondState) (p : DeliveryPlace) (oldest : Soft) → (heard_of f r d s p oldest).state.second.enabled ≡ s.enabled
+heard_enabled : (f : Option Found) (r : recovery.RecoveryState) (d : decisions.DecisionsState) (s : SecondState) (p : DeliveryPlace) (oldest : Soft) → (heard_of f r d s p oldest).state.second.enabled ≡ s.enabled
 unfolding heard_of
-heard_enabled Nothing r d s p oldest = refl
-heard_enabled (Here z reliable) r d s p oldest = other_enabled s _ z reliable
+heard_enabled None r d s p oldest = refl
+heard_enabled (Some found) r d s p oldest = other_enabled s _ found.symbol found.reliable
 
 module _ (taps derivatives : List Float) where
   pub step_enabled : (s : ChainState) (z : Complex32) (oldest : Soft) → (stepped_of taps derivatives s z oldest).state.second.enabled ≡ s.second.enabled

@@ -1,6 +1,6 @@
 -- The two streams. Before enabling they are one. From enabling on both are silent for 31 symbols; the 32nd gives the first stream's dibit beside the second's 0 with [0, 0]; and the first stream is then what it is
 -- without the second. Over every state, list of values and input. Assumes nothing.
-use Rattle.std.specs.Prelude.{◌≡◌, Bool, true, false, cond, ℕ, ◌+◌, ◌%◌, ◌≤◌, ◌<◌, ℤ, Float}
+use Rattle.std.specs.Prelude.{◌≡◌, Bool, true, false, cond, ℕ, ◌+◌, ◌%◌, ◌≤◌, ◌<◌, ℤ, Option, Some, None, Float}
 use Rattle.std.proofs.Math.Path.{refl, ap, subst}
 use Rattle.std.proofs.Common.{sym, ◌∙◌, lt-ltb, le-ltb, ⊎_elim}
 use mathlib.Core.List.{List, [], ◌∷◌, ◌++◌}
@@ -27,7 +27,6 @@ use Rattle.carrier.specs.Carrier.{corrected_of}
 use Rattle.drift_detector.specs.Detector as drift_detector
 use Rattle.drift_carrier.specs.Carrier as drift_carrier
 use Rattle.recovery.specs.declared.step.Found.{Found}
-use Rattle.recovery.specs.declared.step.Found.TheVariants.{Nothing, Here}
 use Rattle.recovery.specs.Recovery as recovery
 use Rattle.decisions.specs.Decisions as decisions
 use Rattle.second.specs.Second.{SecondState, other_of}
@@ -44,11 +43,11 @@ use Rattle.promises.specs.SecondKept.{step_enabled}
 use Rattle.promises.specs.Append.{deliveries_append}
 
 -- ---- BEFORE ENABLING both streams are the first one
-heard_one : (f : Found) (r : recovery.RecoveryState) (d : decisions.DecisionsState) (s : SecondState) (p : DeliveryPlace) (oldest : Soft) → s.enabled ≡ false
+heard_one : (f : Option Found) (r : recovery.RecoveryState) (d : decisions.DecisionsState) (s : SecondState) (p : DeliveryPlace) (oldest : Soft) → s.enabled ≡ false
     → other_delivery_of (heard_of f r d s p oldest).outcome ≡ delivery_of (heard_of f r d s p oldest).outcome
 unfolding heard_of other_of delivery.told_of
-heard_one Nothing r d s p oldest off = refl
-heard_one (Here z reliable) r d s p oldest off = rw off
+heard_one None r d s p oldest off = refl
+heard_one (Some found) r d s p oldest off = rw off
 
 module _ (taps derivatives : List Float) where
   pub one_before_enabling : (values : List Complex32) (s : ChainState) (records : List Slot) → s.second.enabled ≡ false → other_deliveries taps derivatives values s records ≡ deliveries taps derivatives values s records
@@ -160,11 +159,13 @@ record Silence (n : ℕ) (o : Result) (s : SecondState) : Type 0 where
   other : other_delivery_of o ≡ []
   filling : Filling (n + heard_by o) s
 
-heard_silent : (f : Found) (r : recovery.RecoveryState) (d : decisions.DecisionsState) (s : SecondState) (p : DeliveryPlace) (oldest : Soft) (n : ℕ) → Filling n s → n + heard_by (heard_of f r d s p oldest).outcome ≤ 31
+heard_silent : (f : Option Found) (r : recovery.RecoveryState) (d : decisions.DecisionsState) (s : SecondState) (p : DeliveryPlace) (oldest : Soft) (n : ℕ) → Filling n s → n + heard_by (heard_of f r d s p oldest).outcome ≤ 31
     → Silence n (heard_of f r d s p oldest).outcome (heard_of f r d s p oldest).state.second
 unfolding heard_of delivery.told_of
-heard_silent Nothing r d s p oldest n h m = record { first = refl; other = refl; filling = subst (λ (k : ℕ). Filling k s) (let e : n ≡ n + 0 = omega arith in e) h }
-heard_silent (Here z reliable) r d s p oldest n h m =
+heard_silent None r d s p oldest n h m = record { first = refl; other = refl; filling = subst (λ (k : ℕ). Filling k s) (let e : n ≡ n + 0 = omega arith in e) h }
+heard_silent (Some found) r d s p oldest n h m =
+    let z = found.symbol in
+    let reliable = found.reliable in
     let a = (decisions.decided_of d z reliable oldest).answer in
     let b = rearranges p.profile in
     let o = other_second s a z reliable h.enabled in
@@ -223,7 +224,7 @@ zero_beside (Dibit d h l) false = refl
 
 module _ (r : recovery.RecoveryState) (d : decisions.DecisionsState) (s : SecondState) (p : DeliveryPlace) (oldest : Soft) (z : Complex32) (reliable : Bool) where
   abbrev here : chain.Step
-  here = heard_of (Here z reliable) r d s p oldest
+  here = heard_of (Some (record { symbol = z; reliable = reliable })) r d s p oldest
 
   abbrev first : decisions.Step
   first = decisions.decided_of d z reliable oldest
@@ -266,21 +267,21 @@ record Alike (a b : chain.Step) (at : ℕ) : Type 0 where
   records : (slots : List Slot) → records_after a.outcome at slots ≡ records_after b.outcome at slots
   heard : heard_by a.outcome ≡ heard_by b.outcome
 
-heard_alike : (f : Found) (r : recovery.RecoveryState) (d : decisions.DecisionsState) (s q : SecondState) (p o : DeliveryPlace) (oldest : Soft) (at : ℕ) → p.profile ≡ o.profile
+heard_alike : (f : Option Found) (r : recovery.RecoveryState) (d : decisions.DecisionsState) (s q : SecondState) (p o : DeliveryPlace) (oldest : Soft) (at : ℕ) → p.profile ≡ o.profile
     → Alike (heard_of f r d s p oldest) (heard_of f r d q o oldest) at
 unfolding heard_of delivery.told_of
-heard_alike Nothing r d s q p o oldest at e = record { state = record { recovery = refl; decisions = refl; profile = e }; records = λ slots. refl; heard = refl }
-heard_alike (Here z reliable) r d s q p o oldest at e = record { state = record { recovery = refl; decisions = refl; profile = e }; records = λ slots. refl; heard = refl }
+heard_alike None r d s q p o oldest at e = record { state = record { recovery = refl; decisions = refl; profile = e }; records = λ slots. refl; heard = refl }
+heard_alike (Some found) r d s q p o oldest at e = record { state = record { recovery = refl; decisions = refl; profile = e }; records = λ slots. refl; heard = refl }
 
 -- the delivery of the first stream does not depend on a second that answers, or on one that is not enabled
-heard_first : (f : Found) (r : recovery.RecoveryState) (d : decisions.DecisionsState) (s q : SecondState) (p o : DeliveryPlace) (oldest : Soft) → p.profile ≡ o.profile → Full s → q.enabled ≡ false
+heard_first : (f : Option Found) (r : recovery.RecoveryState) (d : decisions.DecisionsState) (s q : SecondState) (p o : DeliveryPlace) (oldest : Soft) → p.profile ≡ o.profile → Full s → q.enabled ≡ false
     → (delivery_of (heard_of f r d s p oldest).outcome ≡ delivery_of (heard_of f r d q o oldest).outcome) × Full (heard_of f r d s p oldest).state.second
-heard_first Nothing r d s q p o oldest e h off = unfold heard_of in (refl, h)
-heard_first (Here z reliable) r d s q p o oldest e h off = (
-  first_told r d s p oldest z reliable h
-      ∙ ap (λ (n : ℤ). answer_delivery (labelled_of (rearranges n) (decisions.decided_of d z reliable oldest).answer)) e
-      ∙ sym (first_off r d q o oldest z reliable off),
-  here_full r d s p oldest z reliable h,
+heard_first None r d s q p o oldest e h off = unfold heard_of in (refl, h)
+heard_first (Some found) r d s q p o oldest e h off = (
+  first_told r d s p oldest found.symbol found.reliable h
+      ∙ ap (λ (n : ℤ). answer_delivery (labelled_of (rearranges n) (decisions.decided_of d found.symbol found.reliable oldest).answer)) e
+      ∙ sym (first_off r d q o oldest found.symbol found.reliable off),
+  here_full r d s p oldest found.symbol found.reliable h,
 )
 
 module _ (taps derivatives : List Float) where

@@ -1,5 +1,5 @@
 -- The stage's definition met from what its parts answer, one law for each way out of a function, and the ranges that each step keeps. Assumes nothing.
-use Rattle.std.specs.Prelude.{◌≡◌, Bool, true, false, ◌&&◌, List, T, length, set, Float}
+use Rattle.std.specs.Prelude.{◌≡◌, Bool, true, false, ◌&&◌, List, Option, Some, None, T, length, set, Float}
 use Rattle.std.proofs.Common.{sym, ap₂, ◌∙◌, length-set}
 use Rattle.std.proofs.Math.Path.{ap, subst}
 use Prim.Native.Nat.{ℕ, zero, suc, ◌+◌, ◌≤◌, ◌<◌}
@@ -12,13 +12,11 @@ use Rattle.numbers.specs.Constants.{one32, minus_one32}
 use Rattle.complex.specs.declared.Complex32.{Complex32}
 use Rattle.peak.specs.declared.KeeperPlace.{KeeperPlace}
 use Rattle.peak.specs.declared.Level.{Level}
-use Rattle.peak.specs.declared.Level.TheVariants.{Filling, At}
 use Rattle.peak.specs.Peak as Peak
 use Rattle.peak.proofs.Laws as PeakLaws
 use Rattle.filter.specs.Filter.{Windows}
 use Rattle.clock.specs.declared.ClockPlace.{ClockPlace}
 use Rattle.clock.specs.declared.Due.{Due}
-use Rattle.clock.specs.declared.Due.TheVariants.{NoSymbol, Symbol}
 use Rattle.clock.specs.Clock as Clock
 use Rattle.clock.specs.Ranges.{ErrorFits, After}
 use Rattle.clock.proofs.Laws.{after_of, stepped_place, update_kept}
@@ -30,7 +28,6 @@ use Rattle.equalizer.specs.Laws.{timing_not_below, timing_not_above}
 use Rattle.complex.specs.Planes.{point_at}
 use Rattle.recovery.specs.declared.RecoveryPlace.{RecoveryPlace}
 use Rattle.recovery.specs.declared.step.Found.{Found}
-use Rattle.recovery.specs.declared.step.Found.TheVariants.{Nothing, Here}
 use Rattle.recovery.specs.Recovery.{admitted_of, RecoveryState, Step, with_keeper, with_clock, symbol_of, clocked_with, clock_step, level_of, stepped_with, stepped_of}
 use Rattle.recovery.specs.Rows.{Symbols, Lent, put_of, linked_with, linked_of, row_turn, row_of, recovered_of}
 use Rattle.recovery.specs.Ranges.{Admitted, KeeperRanged, Ranged, Roomy, Asks}
@@ -41,40 +38,40 @@ module _ (taps derivatives : List Float) (s : RecoveryState) (z : Complex32) (k 
   unfolding stepped_of
   stepped_is r e = e ∙ ap (stepped_with taps derivatives s) is_kept
 
-  pub stepped_filling : k.kept.level ≡ Filling
+  pub stepped_filling : k.kept.level ≡ None
       → ◌≡◌ {A = Step}
-      (record { state = record { place = record { keeper = k.kept.place; clock = s.place.clock }; keeper = k.ring; clock = s.clock; weights = s.weights }; found = Nothing })
+      (record { state = record { place = record { keeper = k.kept.place; clock = s.place.clock }; keeper = k.ring; clock = s.clock; weights = s.weights }; found = None })
       (stepped_of taps derivatives s z)
   unfolding level_of
   stepped_filling l = stepped_is _ (rw l)
 
-  module _ (sample : Complex32) (reliable : Bool) (is_level : k.kept.level ≡ At sample reliable) (r : Clock.ClockStep)
-      (is_run : r ≡ clock_step taps derivatives (with_keeper s k) sample) where
-    clocked_is : (q : Step) → q ≡ clocked_with (with_keeper s k) r reliable → q ≡ stepped_of taps derivatives s z
+  module _ (level : Level) (is_level : k.kept.level ≡ Some level) (r : Clock.ClockStep)
+      (is_run : r ≡ clock_step taps derivatives (with_keeper s k) level.value) where
+    clocked_is : (q : Step) → q ≡ clocked_with (with_keeper s k) r level.reliable → q ≡ stepped_of taps derivatives s z
     unfolding level_of
-    clocked_is q e = stepped_is q (e ∙ ap (λ (r : Clock.ClockStep). clocked_with (with_keeper s k) r reliable) is_run ∙ ap (λ (l : Level). level_of taps derivatives l (with_keeper s k)) (sym is_level))
+    clocked_is q e = stepped_is q (e ∙ ap (λ (r : Clock.ClockStep). clocked_with (with_keeper s k) r level.reliable) is_run ∙ ap (λ (l : Option Level). level_of taps derivatives l (with_keeper s k)) (sym is_level))
 
-    pub stepped_waiting : r.stepped.due ≡ NoSymbol
+    pub stepped_waiting : r.stepped.due ≡ None
         → ◌≡◌ {A = Step}
         (record {
           state = record { place = record { keeper = k.kept.place; clock = r.stepped.place }; keeper = k.ring; clock = record { real = r.real; imaginary = r.imaginary }; weights = s.weights };
-          found = Nothing;
+          found = None;
         })
         (stepped_of taps derivatives s z)
     unfolding symbol_of
     stepped_waiting a = clocked_is _ (rw a)
 
-    pub stepped_here : (arm from : ℕ) (e : Equalizer.Step) (clock : ClockPlace) → r.stepped.due ≡ Symbol arm from
-        → e ≡ Equalizer.equalized_of s.weights (Equalizer.row_of r.windows.real r.windows.imaginary) (Equalizer.row_of r.windows.derivative_real r.windows.derivative_imaginary) reliable
+    pub stepped_here : (symbol : Due) (e : Equalizer.Step) (clock : ClockPlace) → r.stepped.due ≡ Some symbol
+        → e ≡ Equalizer.equalized_of s.weights (Equalizer.row_of r.windows.real r.windows.imaginary) (Equalizer.row_of r.windows.derivative_real r.windows.derivative_imaginary) level.reliable
         → clock ≡ Clock.updated_of r.stepped.place e.equalized.timing
         → ◌≡◌ {A = Step}
         (record {
           state = record { place = record { keeper = k.kept.place; clock = clock }; keeper = k.ring; clock = record { real = r.real; imaginary = r.imaginary }; weights = e.weights };
-          found = Here e.equalized.value reliable;
+          found = Some (record { symbol = e.equalized.value; reliable = level.reliable });
         })
         (stepped_of taps derivatives s z)
     unfolding symbol_of
-    stepped_here arm from e clock a is_e is_clock = clocked_is _ (rw (a, is_clock, is_e))
+    stepped_here symbol e clock a is_e is_clock = clocked_is _ (rw (a, is_clock, is_e))
 
 -- ---- ranges
 -- THE TEST AND THE FACTS
@@ -109,27 +106,27 @@ error_fits w x dx reliable =
     let high : lt one32 t ≡ false = timing_not_above (Equalizer.tap_sums_of w x dx) reliable in
     ClockLaws.within_from t minus_one32 one32 tt (rw (low, high) tt)
 
-symbol_ranged : (a : Due) (w : Windows) (s : RecoveryState) (reliable : Bool) → KeeperRanged s.place.keeper s.keeper → After a s.place.clock → Ranged (symbol_of a w s reliable).state
+symbol_ranged : (a : Option Due) (w : Windows) (s : RecoveryState) (reliable : Bool) → KeeperRanged s.place.keeper s.keeper → After a s.place.clock → Ranged (symbol_of a w s reliable).state
 unfolding symbol_of
-symbol_ranged NoSymbol w s reliable k t = record { keeper = k; clock = t }
-symbol_ranged (Symbol arm from) w s reliable k t =
+symbol_ranged None w s reliable k t = record { keeper = k; clock = t }
+symbol_ranged (Some symbol) w s reliable k t =
     record {
       keeper = k;
       clock = update_kept s.place.clock _ t.0 t.1 (error_fits s.weights (Equalizer.row_of w.real w.imaginary) (Equalizer.row_of w.derivative_real w.derivative_imaginary) reliable);
     }
 
-put_asks : (n : ℕ) (row : Symbols) (f : Found) → Roomy (suc n) row → Roomy n (put_of row f)
-put_asks n row Nothing h = let a = h.room in record { room = omega arith; real = h.real; imaginary = h.imaginary; reliable = h.reliable }
-put_asks n row (Here z sure) h = let a = h.room in record { room = omega arith; real = simp length-set h.real; imaginary = simp length-set h.imaginary; reliable = simp length-set h.reliable }
+put_asks : (n : ℕ) (row : Symbols) (f : Option Found) → Roomy (suc n) row → Roomy n (put_of row f)
+put_asks n row None h = let a = h.room in record { room = omega arith; real = h.real; imaginary = h.imaginary; reliable = h.reliable }
+put_asks n row (Some found) h = let a = h.room in record { room = omega arith; real = simp length-set h.real; imaginary = simp length-set h.imaginary; reliable = simp length-set h.reliable }
 
 module _ (taps derivatives : List Float) where
-  level_ranged : (l : Level) (s : RecoveryState) → Ranged s → Ranged (level_of taps derivatives l s).state
+  level_ranged : (l : Option Level) (s : RecoveryState) → Ranged s → Ranged (level_of taps derivatives l s).state
   unfolding level_of
-  level_ranged Filling s h = h
-  level_ranged (At z reliable) s h =
-      let r = clock_step taps derivatives s z in
-      symbol_ranged r.stepped.due r.windows (with_clock s r) reliable h.keeper
-      (after_of s.place.clock r.stepped h.clock (stepped_place taps derivatives s.place.clock z s.clock.real s.clock.imaginary _))
+  level_ranged None s h = h
+  level_ranged (Some level) s h =
+      let r = clock_step taps derivatives s level.value in
+      symbol_ranged r.stepped.due r.windows (with_clock s r) level.reliable h.keeper
+      (after_of s.place.clock r.stepped h.clock (stepped_place taps derivatives s.place.clock level.value s.clock.real s.clock.imaginary _))
 
   pub stepped_ranged : (s : RecoveryState) (z : Complex32) → Ranged s → Ranged (stepped_of taps derivatives s z).state
   unfolding stepped_of
@@ -174,9 +171,9 @@ module _ (taps derivatives : List Float) where
         (e ∙ ap (λ (m : ℕ). row_of taps derivatives real imaginary m b) q, rw e (asks_after i 0 b (fewer n (0 + i) b (omega arith) a)))
 
 -- a symbol at most for each value
-put_most : (row : Symbols) (f : Found) → (put_of row f).count ≤ row.count + 1
-put_most row Nothing = omega arith
-put_most row (Here z sure) = omega arith
+put_most : (row : Symbols) (f : Option Found) → (put_of row f).count ≤ row.count + 1
+put_most row None = omega arith
+put_most row (Some found) = omega arith
 
 pub symbols_most : (taps derivatives real imaginary : List Float) (n : ℕ) (b : Lent) → (row_of taps derivatives real imaginary n b).symbols.count ≤ b.symbols.count + n
 unfolding row_of linked_of turns
@@ -194,11 +191,16 @@ unfolding recovered_of
 recovered_is tables real imaginary n b a t e = e ∙ ap (λ (t : Tables). row_of t.taps t.derivatives real imaginary n b) t
 
 -- ---- a symbol written
-pub put_none : (row : Symbols) (f : Found) → f ≡ Nothing → row ≡ put_of row f
+pub put_none : (row : Symbols) (f : Option Found) → f ≡ None → row ≡ put_of row f
 put_none row f e = rw e
 
-pub put_here : (row : Symbols) (f : Found) (z : Complex32) (sure : Bool) → f ≡ Here z sure
+pub put_here : (row : Symbols) (f : Option Found) (found : Found) → f ≡ Some found
     → ◌≡◌ {A = Symbols}
-    (record { real = set row.real row.count z.real; imaginary = set row.imaginary row.count z.imaginary; reliable = set row.reliable row.count sure; count = row.count + 1 })
+    (record {
+      real = set row.real row.count found.symbol.real;
+      imaginary = set row.imaginary row.count found.symbol.imaginary;
+      reliable = set row.reliable row.count found.reliable;
+      count = row.count + 1;
+    })
     (put_of row f)
-put_here row f z sure e = rw e
+put_here row f found e = rw e

@@ -1,19 +1,16 @@
 -- The first stage of the chain: a value moves the peak keeper and the clock and, where the clock has a symbol, the equalizer and the clock's loop. Definitions only.
-use Rattle.std.specs.Prelude.{Bool, ◌&&◌, List, replicate, Float}
+use Rattle.std.specs.Prelude.{Bool, ◌&&◌, List, Option, Some, None, replicate, Float}
 use Rattle.numbers.specs.Constants.{zero32}
 use Rattle.complex.specs.declared.Complex32.{Complex32}
 use Rattle.peak.specs.declared.Level.{Level}
-use Rattle.peak.specs.declared.Level.TheVariants.{Filling, At}
 use Rattle.peak.specs.Peak as Peak
 use Rattle.filter.specs.Filter.{Windows}
 use Rattle.clock.specs.declared.Due.{Due}
-use Rattle.clock.specs.declared.Due.TheVariants.{NoSymbol, Symbol}
 use Rattle.clock.specs.Clock as Clock
 use Rattle.equalizer.specs.Equalizer as Equalizer
 use Rattle.complex.specs.Planes.{Planes}
 use Rattle.recovery.specs.declared.RecoveryPlace.{RecoveryPlace}
 use Rattle.recovery.specs.declared.step.Found.{Found}
-use Rattle.recovery.specs.declared.step.Found.TheVariants.{Nothing, Here}
 
 -- the places that may be run
 abbrev pub admitted_of : RecoveryPlace → Bool
@@ -37,7 +34,7 @@ state_of p kr ki tr ti wr wi = record {
 -- what a value leaves: the stage, and its symbol, where there is one
 pub record Step : Type 0 where
   pub state : RecoveryState
-  pub found : Found
+  pub found : Option Found
 
 abbrev pub with_keeper : RecoveryState → Peak.KeeperStep → RecoveryState
 with_keeper s k = record { place = record { keeper = k.kept.place; clock = s.place.clock }; keeper = k.ring; clock = s.clock; weights = s.weights }
@@ -59,7 +56,7 @@ with_symbol s e reliable = record {
     clock = s.clock;
     weights = e.weights;
   };
-  found = Here e.equalized.value reliable;
+  found = Some (record { symbol = e.equalized.value; reliable = reliable });
 }
 
 -- the windows equalized
@@ -67,9 +64,9 @@ abbrev pub equalized_with : RecoveryState → Windows → Bool → Equalizer.Ste
 equalized_with s w reliable = Equalizer.equalized_of s.weights (Equalizer.row_of w.real w.imaginary) (Equalizer.row_of w.derivative_real w.derivative_imaginary) reliable
 
 -- a clock that has no symbol ends the step there
-unfoldable pub symbol_of : Due → Windows → RecoveryState → Bool → Step
-symbol_of NoSymbol w s reliable = record { state = s; found = Nothing }
-symbol_of (Symbol arm from) w s reliable = with_symbol s (equalized_with s w reliable) reliable
+unfoldable pub symbol_of : Option Due → Windows → RecoveryState → Bool → Step
+symbol_of None w s reliable = record { state = s; found = None }
+symbol_of (Some symbol) w s reliable = with_symbol s (equalized_with s w reliable) reliable
 
 -- the windows before a symbol is found; only a symbol's are used
 abbrev pub blank : Windows
@@ -85,9 +82,9 @@ module _ (taps derivatives : List Float) where
   clock_step s z = Clock.stepped_of taps derivatives s.place.clock z s.clock.real s.clock.imaginary blank
 
   -- a keeper that is filling ends it too
-  unfoldable pub level_of : Level → RecoveryState → Step
-  level_of Filling s = record { state = s; found = Nothing }
-  level_of (At z reliable) s = clocked_with s (clock_step s z) reliable
+  unfoldable pub level_of : Option Level → RecoveryState → Step
+  level_of None s = record { state = s; found = None }
+  level_of (Some level) s = clocked_with s (clock_step s level.value) level.reliable
 
   abbrev pub stepped_with : RecoveryState → Peak.KeeperStep → Step
   stepped_with s k = level_of k.kept.level (with_keeper s k)

@@ -1,11 +1,10 @@
 -- The first stage over a row of values: a row of symbols, each with whether it is reliable. Definitions only.
-use Rattle.std.specs.Prelude.{ℕ, ◌+◌, Bool, List, set, Float}
+use Rattle.std.specs.Prelude.{ℕ, ◌+◌, Bool, List, Option, Some, None, set, Float}
 use Rattle.laws.specs.Turns.{turns}
 use Rattle.complex.specs.declared.Complex32.{Complex32}
 use Rattle.taps.specs.Taps.{both_tables}
 use Rattle.complex.specs.Planes.{point_at}
 use Rattle.recovery.specs.declared.step.Found.{Found}
-use Rattle.recovery.specs.declared.step.Found.TheVariants.{Nothing, Here}
 use Rattle.recovery.specs.Recovery.{RecoveryState, Step, stepped_of}
 
 -- a row of symbols: their two parts, whether each is reliable, and how many stand there
@@ -16,9 +15,14 @@ pub record Symbols : Type 0 where
   pub count : ℕ
 
 -- a symbol put after those that stand there
-abbrev pub put_of : Symbols → Found → Symbols
-put_of row Nothing = row
-put_of row (Here z sure) = record { real = set row.real row.count z.real; imaginary = set row.imaginary row.count z.imaginary; reliable = set row.reliable row.count sure; count = row.count + 1 }
+abbrev pub put_of : Symbols → Option Found → Symbols
+put_of row None = row
+put_of row (Some found) = record {
+  real = set row.real row.count found.symbol.real;
+  imaginary = set row.imaginary row.count found.symbol.imaginary;
+  reliable = set row.reliable row.count found.reliable;
+  count = row.count + 1;
+}
 
 -- the stage, and the row that it is lent
 pub record Lent : Type 0 where

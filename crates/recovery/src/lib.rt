@@ -39,9 +39,7 @@ pub struct Recovered {
 pub fn is_admitted(p: RecoveryPlace) -> bool
     ensures { result ≡ admitted_of p }
 {
-    let keeper = p.keeper;
-    let place = p.clock;
-    peak::is_admitted(keeper) & clock::is_admitted(place)
+    peak::is_admitted(p.keeper) & clock::is_admitted(p.clock)
 }
 
 // Takes the first `made` values of a row. Their symbols, and whether each is reliable, stand from the

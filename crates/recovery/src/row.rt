@@ -14,7 +14,7 @@ use peak::VALUES;
 
 // A symbol and whether it is reliable, after those that stand in the row.
 fn put(
-    found: Found,
+    found: Option<Found>,
     count: usize,
     symbol_real: &mut [f32; ROW],
     symbol_imaginary: &mut [f32; ROW],
@@ -23,12 +23,12 @@ fn put(
     requires { GivenSymbols count symbol_real symbol_imaginary reliable (Roomy 1) }
     ensures { LeavesSymbols count result symbol_real symbol_imaginary reliable (λ b a. a ≡ put_of b found) }
 {
-    let Found::Here(symbol, sure) = found else {
+    let Some(found) = found else {
         return count;
     };
-    symbol_real[count] = symbol.real;
-    symbol_imaginary[count] = symbol.imaginary;
-    reliable[count] = sure;
+    symbol_real[count] = found.symbol.real;
+    symbol_imaginary[count] = found.symbol.imaginary;
+    reliable[count] = found.reliable;
     count + 1
 }
 
@@ -57,9 +57,8 @@ fn link<'a>(
         (λ b a. (a ≡ linked_of taps.now derivatives.now b value)
         × (sizes.new ≡ envelopes_of a.state.keeper.real a.state.keeper.imaginary)) }
 {
-    let before = t.place;
     let s = step(
-        before,
+        t.place,
         value,
         taps,
         derivatives,
@@ -71,10 +70,10 @@ fn link<'a>(
         weight_real,
         weight_imaginary,
     );
-    let place = s.place;
-    let found = s.found;
-    let count = put(found, t.count, symbol_real, symbol_imaginary, reliable);
-    Recovered { place, count }
+    Recovered {
+        place: s.place,
+        count: put(s.found, t.count, symbol_real, symbol_imaginary, reliable),
+    }
 }
 
 // The first `made` values of a row. The plane of sizes holds the envelopes of the keeper's values.
@@ -98,7 +97,6 @@ pub fn row<'a>(
 ) -> Recovered
     requires given_row { GivenRow first keeper_real keeper_imaginary clock_real clock_imaginary
         weight_real weight_imaginary symbol_real symbol_imaginary reliable (Asks made) }
-    requires made_bound { made ≤ 256 }
     requires sizes_value { sizes.old ≡ envelopes_of keeper_real.old keeper_imaginary.old }
     ensures { LeavesRow first result keeper_real keeper_imaginary clock_real clock_imaginary
         weight_real weight_imaginary symbol_real symbol_imaginary reliable
@@ -106,8 +104,7 @@ pub fn row<'a>(
         × Asks 0 a) }
 {
     let mut t = first;
-    let mut i = 0;
-    while i < made {
+    for i in 0..made {
         let value = Complex32 {
             real: row_real[i],
             imaginary: row_imaginary[i],
@@ -128,7 +125,6 @@ pub fn row<'a>(
             symbol_imaginary,
             reliable,
         );
-        i += 1;
     }
     t
 }

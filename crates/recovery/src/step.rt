@@ -10,20 +10,20 @@ use clock::update;
 use complex::Complex32;
 use equalizer::{WEIGHTS, equalize};
 use filter::{RING, TAPS, WINDOWS};
-use peak::{Level, VALUES, keep};
+use peak::{VALUES, keep};
 
-// No symbol, or a symbol and whether it is reliable.
+// A symbol, and whether it is reliable.
 #[derive(Clone, Copy)]
-pub enum Found {
-    Nothing,
-    Here(Complex32, bool),
+pub struct Found {
+    pub symbol: Complex32,
+    pub reliable: bool,
 }
 
 // The places after a value, and its symbol, where there is one.
 #[derive(Clone, Copy)]
 pub struct Stepped {
     pub place: RecoveryPlace,
-    pub found: Found,
+    pub found: Option<Found>,
 }
 
 // One value. While the keeper fills, and where the clock has no symbol, the step ends there. The plane
@@ -47,28 +47,21 @@ pub fn step<'a>(
         (λ b a. (◌≡◌ {A = Step} (record { state = a; found = result.found }) (stepped_of taps.now derivatives.now b value))
         × (sizes.new ≡ envelopes_of a.keeper.real a.keeper.imaginary)) }
 {
-    let keeper = p.keeper;
-    let clock = p.clock;
-    let k = keep(keeper, value, keeper_real, keeper_imaginary, sizes);
-    let keeper_after = k.place;
-    let level = k.level;
-    let Level::At(sample, reliable) = level else {
+    let k = keep(p.keeper, value, keeper_real, keeper_imaginary, sizes);
+    let Some(level) = k.level else {
         let place = RecoveryPlace {
-            keeper: keeper_after,
-            clock,
+            keeper: k.place,
+            clock: p.clock,
         };
-        return Stepped {
-            place,
-            found: Found::Nothing,
-        };
+        return Stepped { place, found: None };
     };
     let mut value_real = [0.0; WINDOWS];
     let mut value_imaginary = [0.0; WINDOWS];
     let mut derivative_real = [0.0; WINDOWS];
     let mut derivative_imaginary = [0.0; WINDOWS];
-    let t = clock::step(
-        clock,
-        sample,
+    let ticked = clock::step(
+        p.clock,
+        level.value,
         taps,
         derivatives,
         clock_real,
@@ -78,17 +71,12 @@ pub fn step<'a>(
         &mut derivative_real,
         &mut derivative_imaginary,
     );
-    let ticked = t.place;
-    let due = t.due;
-    let clock::Due::Symbol(_, _) = due else {
+    let Some(_) = ticked.due else {
         let place = RecoveryPlace {
-            keeper: keeper_after,
-            clock: ticked,
+            keeper: k.place,
+            clock: ticked.place,
         };
-        return Stepped {
-            place,
-            found: Found::Nothing,
-        };
+        return Stepped { place, found: None };
     };
     let e = equalize(
         weight_real,
@@ -97,16 +85,18 @@ pub fn step<'a>(
         &value_imaginary,
         &derivative_real,
         &derivative_imaginary,
-        reliable,
+        level.reliable,
     );
-    let symbol = e.value;
-    let turned = update(ticked, e.timing);
     let place = RecoveryPlace {
-        keeper: keeper_after,
-        clock: turned,
+        keeper: k.place,
+        clock: update(ticked.place, e.timing),
+    };
+    let found = Found {
+        symbol: e.value,
+        reliable: level.reliable,
     };
     Stepped {
         place,
-        found: Found::Here(symbol, reliable),
+        found: Some(found),
     }
 }

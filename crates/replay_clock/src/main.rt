@@ -2,19 +2,13 @@
 // writes a line for each: the digest of the place after it and, for a sample, of its windows.
 #![tactic(auto)]
 
-use clock::{ClockPlace, Due};
+use clock::ClockPlace;
 use complex::Complex32;
+use filter::{RING, TAPS, WINDOWS};
 use replay::{any, mixed, mixed_flag, mixed_float32, mixed_plane, print_line, word};
 
 // A record: what is done, and two words of operands.
 const RECORD: usize = 24;
-
-// The taps of the matched filter, the places of the clock's ring, and the windows.
-const TAPS: usize = 1025;
-
-const RING: usize = 256;
-
-const WINDOWS: usize = 21;
 
 // A sample of any two floats.
 fn sample(b: u64, c: u64) -> Complex32 {
@@ -38,24 +32,11 @@ fn handed_in(b: u64, c: u64) -> ClockPlace {
 
 // The digest with a place in it.
 fn mixed_place(h: u64, c: ClockPlace) -> u64 {
-    let h1 = mixed(h, c.start as u64);
-    let h2 = mixed(h1, c.count as u64);
-    let h3 = mixed(h2, c.position as u64);
-    let h4 = mixed_flag(h3, c.warm);
-    mixed_float32(mixed_float32(h4, c.phase), c.rate)
-}
-
-// The digest with a plane of windows in it.
-fn mixed_21(h: u64, values: &[f32; WINDOWS]) -> u64 {
-    mixed_plane(h, values)
-}
-
-// Whether a symbol came.
-fn came(due: Due) -> bool {
-    match due {
-        Due::NoSymbol => false,
-        Due::Symbol(_, _) => true,
-    }
+    let counts = mixed(
+        mixed(mixed(h, c.start as u64), c.count as u64),
+        c.position as u64,
+    );
+    mixed_float32(mixed_float32(mixed_flag(counts, c.warm), c.phase), c.rate)
 }
 
 // A sample into an admitted place. The windows hold 1.5 before, so that those left alone show.
@@ -87,13 +68,11 @@ fn stepped<'a>(
         &mut derivative_real,
         &mut derivative_imaginary,
     );
-    let place = s.place;
-    let due = s.due;
-    let h = mixed_place(mixed_flag(0, came(due)), place);
-    let values = mixed_21(mixed_21(h, &value_real), &value_imaginary);
-    let all = mixed_21(mixed_21(values, &derivative_real), &derivative_imaginary);
+    let h = mixed_place(mixed_flag(0, s.due.is_some()), s.place);
+    let values = mixed_plane(mixed_plane(h, &value_real), &value_imaginary);
+    let all = mixed_plane(mixed_plane(values, &derivative_real), &derivative_imaginary);
     print_line(all, 16);
-    place
+    s.place
 }
 
 // The place after one record.
@@ -108,13 +87,10 @@ fn played<'a>(
     let a = word(record, 0);
     let b = word(record, 8);
     let c = word(record, 16);
-    if a == 0 {
-        return stepped(place, sample(b, c), taps, derivatives, real, imaginary);
-    }
-    let next = if a == 1 {
-        clock::update(place, any(b))
-    } else {
-        handed_in(b, c)
+    let next = match a {
+        0 => return stepped(place, sample(b, c), taps, derivatives, real, imaginary),
+        1 => clock::update(place, any(b)),
+        _ => handed_in(b, c),
     };
     print_line(mixed_place(0, next), 16);
     next
@@ -126,21 +102,17 @@ fn main() {
     let mut imaginary = [0.0; RING];
     let mut place = clock::fresh();
     let mut record = [0u8; RECORD];
-    let mut left: u64 = 1000000;
-    while left > 0 {
-        let got = io::read_full(0, &mut record);
-        if got < RECORD {
-            left = 0;
-        } else {
-            place = played(
-                place,
-                &record,
-                &t.taps,
-                &t.derivatives,
-                &mut real,
-                &mut imaginary,
-            );
-            left -= 1;
+    for _ in 0..1000000 {
+        if io::read_full(0, &mut record) < RECORD {
+            break;
         }
+        place = played(
+            place,
+            &record,
+            &t.taps,
+            &t.derivatives,
+            &mut real,
+            &mut imaginary,
+        );
     }
 }

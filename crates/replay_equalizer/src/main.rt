@@ -16,19 +16,19 @@ fn plane(record: &[u8; RECORD], from: usize) -> [f32; WEIGHTS]
     requires { from + 84 ≤ 508 }
 {
     let mut values = [0.0; WEIGHTS];
-    let mut k = 0;
-    while k < WEIGHTS {
+    for k in 0..WEIGHTS {
         let at = from + 4 * k;
         values[k] = decoded32([record[at], record[at + 1], record[at + 2], record[at + 3]]);
-        k += 1;
     }
     values
 }
 
 // The digest of a symbol, its timing error and all weights.
 fn told(equalized: Equalized, wr: &[f32; WEIGHTS], wi: &[f32; WEIGHTS]) -> u64 {
-    let value = equalized.value;
-    let h = mixed_float32(mixed_float32(0, value.real), value.imaginary);
+    let h = mixed_float32(
+        mixed_float32(0, equalized.value.real),
+        equalized.value.imaginary,
+    );
     mixed_plane(mixed_plane(mixed_float32(h, equalized.timing), wr), wi)
 }
 
@@ -51,14 +51,10 @@ fn main() {
     let mut wr = equalizer::fresh_real();
     let mut wi = equalizer::fresh_imaginary();
     let mut record = [0u8; RECORD];
-    let mut left: u64 = 1000000;
-    while left > 0 {
-        let got = io::read_full(0, &mut record);
-        if got < RECORD {
-            left = 0;
-        } else {
-            played(&record, &mut wr, &mut wi);
-            left -= 1;
+    for _ in 0..1000000 {
+        if io::read_full(0, &mut record) < RECORD {
+            break;
         }
+        played(&record, &mut wr, &mut wi);
     }
 }

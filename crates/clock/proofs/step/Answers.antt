@@ -7,13 +7,12 @@ returns-in_default c = record { same = step_waiting _ _ _ _ _ _ _ _ _ _ c.ticked
 
 pub matched-requires : goal.matched-requires
 matched-requires c =
-    let is_due = c.in-Symbol.is in
+    let is_due = c.in-Some.is in
     let is_ticked = c.ticked-s.ensures in
-    let asked = c.requires in
-    let k = after_symbol _ _ _ _ is_due is_ticked.kept in record { arm_bound_1 = k.0; arm_bound_2 = k.1; given = asked.given }
+    let k = after_symbol _ _ _ is_due is_ticked.kept in record { arm_below = k.0; from_below = k.1 }
 
 pub returns : goal.returns
 returns c =
     let is_ticked = c.ticked-s.ensures in
-    let is_due = c.in-Symbol.is in
-    record { same = step_symbol _ _ _ _ _ _ _ _ _ _ is_ticked.same _ _ _ is_due c.matched.ensures; kept = is_ticked.kept }
+    let is_due = c.in-Some.is in
+    record { same = step_symbol _ _ _ _ _ _ _ _ _ _ is_ticked.same _ _ is_due c.matched.ensures; kept = is_ticked.kept }

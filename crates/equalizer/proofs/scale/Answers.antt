@@ -5,11 +5,11 @@ use borrow.Author.Rules.{rules}
 use Rattle.equalizer.proofs.scale.Goals as goal
 
 pub loop-k-init : goal.loop-k-init
-loop-k-init c = (search rules, turns_start _ _)
+loop-k-init c = turns_start _ _
 
 pub loop-k-preserved : goal.loop-k-preserved
-loop-k-preserved c = (search rules, turns_step _ _ _ _ c.loop-k.invariant.1)
+loop-k-preserved c = turns_step _ _ _ _ c.loop-k.invariant
 
 pub returns : goal.returns
 unfolding scaled_by
-returns c = turns_end _ _ _ _ _ c.loop-k.invariant.1 (search rules) (search rules)
+returns c = turns_end _ _ _ _ _ c.loop-k.invariant (search rules) (search rules)

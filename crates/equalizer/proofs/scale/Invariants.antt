@@ -1,12 +1,8 @@
 -- `equalizer::scale` meets its contract: the invariant is the weights after k turns.
-use Prim.Native.Nat.{◌≤◌, ◌-◌}
 use mathlib.Core.Path.{◌≡◌}
 use Rattle.laws.specs.Turns.{turns}
 use Rattle.equalizer.specs.Equalizer.{row_of, scale_turn}
 use Rattle.equalizer.proofs.scale.Given as goal
 
 abbrev pub invariant-loop-k : goal.invariant-loop-k
-invariant-loop-k l = (l.k ≤ 21) × (row_of l.wr l.wi ≡ turns (scale_turn l.gain) l.k (row_of l.initial.wr l.initial.wi))
-
-abbrev pub decreases-loop-k : goal.decreases-loop-k
-decreases-loop-k l = 21 - l.k
+invariant-loop-k l = row_of l.wr l.wi ≡ turns (scale_turn l.gain) l.k (row_of l.initial.wr l.initial.wi)

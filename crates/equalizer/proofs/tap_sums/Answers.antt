@@ -6,13 +6,11 @@ use borrow.Author.Rules.{rules}
 use Rattle.equalizer.proofs.tap_sums.Goals as goal
 
 pub loop-k-init : goal.loop-k-init
-loop-k-init c = (search rules, rw turns_none (cc))
+loop-k-init c = rw turns_none (cc)
 
 pub loop-k-preserved : goal.loop-k-preserved
-loop-k-preserved c =
-    let so_far = c.loop-k.invariant in
-    (search rules, c.tapped-s.ensures ∙ turns_step _ _ _ _ so_far.1)
+loop-k-preserved c = c.tapped-s.ensures ∙ turns_step _ _ _ _ c.loop-k.invariant
 
 pub returns : goal.returns
 unfolding tap_sums_of
-returns c = turns_end _ _ _ _ _ c.loop-k.invariant.1 (search rules) (search rules)
+returns c = turns_end _ _ _ _ _ c.loop-k.invariant (search rules) (search rules)

@@ -2,11 +2,6 @@
 use Rattle.filter.proofs.Laws.{matched_is}
 use Rattle.filter.proofs.matched.Goals as goal
 
-pub windows-requires : goal.windows-requires
-windows-requires c =
-    let asked = c.requires in
-    asked.given
-
 pub returns : goal.returns
 returns c =
     let is_taps = c.arm_taps.ensures in

@@ -4,7 +4,7 @@ use borrow.Author.Rules.{rules}
 use Rattle.filter.proofs.windows.Goals as goal
 
 pub loop-g-init : goal.loop-g-init
-loop-g-init c = (search rules, made_start _ _ _ _ _ _ _ _ (search rules) (search rules) (search rules) (search rules))
+loop-g-init c = made_start _ _ _ _ _ _ _ _ (search rules) (search rules) (search rules) (search rules)
 
 pub loop-g-preserved : goal.loop-g-preserved
 loop-g-preserved c =
@@ -12,11 +12,9 @@ loop-g-preserved c =
     let is_group = c.group-k.ensures in
     let is_sums = c.four_sums-s.ensures in
     let is_real = c.put.ensures in
-    let is_imaginary = c.put-in-loop-g.ensures in (
-      search rules,
-      made_group _ _ _ _ _ _ _ _ _ _ _ _ _ _ _ so_far.1 (search rules) is_group.is (search rules)
-          is_sums is_real is_imaginary c.put-in-loop-g-2.ensures c.put-in-loop-g-3.ensures,
-    )
+    let is_imaginary = c.put-in-loop-g.ensures in
+    made_group _ _ _ _ _ _ _ _ _ _ _ _ _ _ _ so_far (search rules) is_group.is (search rules)
+    is_sums is_real is_imaginary c.put-in-loop-g-2.ensures c.put-in-loop-g-3.ensures
 
 pub returns : goal.returns
-returns c = made_end _ _ _ _ _ _ _ _ _ c.loop-g.invariant.1 (search rules) (search rules)
+returns c = made_end _ _ _ _ _ _ _ _ _ c.loop-g.invariant (search rules) (search rules)

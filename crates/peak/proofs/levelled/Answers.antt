@@ -5,4 +5,4 @@ use Rattle.peak.proofs.levelled.Goals as goal
 pub returns : goal.returns
 returns c =
     let is_followed = c.followed-next.ensures in
-    levelled_is _ _ _ _ _ _ _ _ _ is_followed c.floor-least.ensures c.gain.ensures c.scaled-value.ensures c.is_reliable.ensures
+    levelled_is _ _ _ _ _ _ _ _ _ is_followed c.floor-least.ensures c.gain.ensures c.scaled.ensures c.is_reliable.ensures

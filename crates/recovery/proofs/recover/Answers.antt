@@ -1,5 +1,4 @@
 -- `recovery::recover` meets its contract: it is the row with the tables that `both_tables` gives; the sizes are the keeper's envelopes.
-use native.Mathlib.Omega.{arith}
 use Rattle.recovery.specs.Laws.{recovered_is}
 use Rattle.recovery.proofs.recover.Goals as goal
 
@@ -7,7 +6,7 @@ pub row-requires : goal.row-requires
 row-requires c =
     let asked = c.requires in
     let is_envelopes = c.envelopes.ensures in
-    record { given_row = asked; made_bound = omega (arith, asked.symbols.room); sizes_value = is_envelopes }
+    record { given_row = asked; sizes_value = is_envelopes }
 
 pub returns : goal.returns
 returns c =

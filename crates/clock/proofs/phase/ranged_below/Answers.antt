@@ -3,7 +3,7 @@ use Rattle.clock.proofs.Ranged.{neg_in, same_low, held}
 use Rattle.clock.proofs.phase.ranged_below.Goals as goal
 
 pub ceiling-above-requires : goal.ceiling-above-requires
-ceiling-above-requires c = neg_in _ c.requires.fact_1 c.requires.fact_2
+ceiling-above-requires c = neg_in _ c.requires.fits c.requires.below
 
 pub returns : goal.returns
-returns c = let same = same_low _ _ c.requires.fact_1 c.requires.fact_2 c.ceiling-above.ensures in record { same = held _ _ _ _ same; few = same.few }
+returns c = let same = same_low _ _ c.requires.fits c.requires.below c.ceiling-above.ensures in record { same = held _ _ _ _ same; few = same.few }

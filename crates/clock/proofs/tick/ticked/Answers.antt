@@ -6,11 +6,11 @@ use Rattle.clock.proofs.tick.ticked.Goals as goal
 pub overflow_add-at : goal.overflow_add-at
 overflow_add-at c = let h = assertion_holds _ c.requires in let s = c.requires.start in omega arith
 
-pub overflow_add-taken : goal.overflow_add-taken
-overflow_add-taken c = let h = assertion_holds _ c.requires in omega arith
+pub overflow_add-c : goal.overflow_add-c
+overflow_add-c c = let h = assertion_holds _ c.requires in omega arith
 
 pub timed-requires : goal.timed-requires
-timed-requires c = record { fact_1 = (λ w. taken_hot _ c.requires w); fact_2 = (λ w. taken_first _ c.requires w) }
+timed-requires c = record { warm_taken = (λ w. taken_hot _ c.requires w); cold_taken = (λ w. taken_first _ c.requires w) }
 
 pub returns : goal.returns
 returns c = record { same = ticked_is _ _ _ _ _ _ refl c.timed.ensures; kept = after_of _ _ c.requires c.timed.ensures }

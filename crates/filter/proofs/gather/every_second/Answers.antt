@@ -7,11 +7,11 @@ use borrow.Author.Rules.{rules}
 use Rattle.filter.proofs.gather.every_second.Goals as goal
 
 pub loop-j-init : goal.loop-j-init
-loop-j-init c = (search rules, search rules, search rules, fill_start _ _)
+loop-j-init c = fill_start _ _
 
 pub loop-j-preserved : goal.loop-j-preserved
-loop-j-preserved c = (search rules, search rules, search rules, fill_step _ _ _ _ _ refl c.loop-j.invariant.3)
+loop-j-preserved c = fill_step _ _ _ _ _ refl c.loop-j.invariant
 
 pub returns : goal.returns
 unfolding every_second_of
-returns c = fill_end _ _ _ _ _ nan c.loop-j.invariant.3 (search rules) (search rules) (search rules)
+returns c = fill_end _ _ _ _ _ nan c.loop-j.invariant (search rules) (search rules) (search rules)

@@ -5,14 +5,10 @@ use borrow.Author.Rules.{rules}
 use Rattle.filter.proofs.sums.four_sums.Goals as goal
 
 pub loop-j-init : goal.loop-j-init
-loop-j-init c = (search rules, c.no_sums-s.ensures ∙ four_start _ _ _ _ _)
+loop-j-init c = c.no_sums-s.ensures ∙ four_start _ _ _ _ _
 
 pub loop-j-preserved : goal.loop-j-preserved
-loop-j-preserved c =
-    let so_far = c.loop-j.invariant in
-    (search rules, c.tapped_four-s-in-loop-j.ensures ∙ four_odd _ _ _ _ _ _ _ _ _ (c.tapped_four-s.ensures ∙ four_even _ _ _ _ _ _ _ _ _ so_far.1))
+loop-j-preserved c = c.tapped_four-s-in-loop-j.ensures ∙ four_odd _ _ _ _ _ _ _ _ _ (c.tapped_four-s.ensures ∙ four_even _ _ _ _ _ _ _ _ _ c.loop-j.invariant)
 
 pub returns : goal.returns
-returns c =
-    let so_far = c.loop-j.invariant in
-    c.tapped_four.ensures ∙ four_last _ _ _ _ _ _ _ _ _ so_far.1 (search rules) (search rules)
+returns c = c.tapped_four.ensures ∙ four_last _ _ _ _ _ _ _ _ _ c.loop-j.invariant (search rules) (search rules)

@@ -7,12 +7,12 @@ step-s-requires c =
     let asked = c.requires in
     record { given = asked.given_row.state; sizes_value = asked.sizes_value }
 
-pub put-count-requires : goal.put-count-requires
-put-count-requires c =
+pub put-requires : goal.put-requires
+put-requires c =
     let asked = c.requires in
     asked.given_row.symbols
 
 pub returns : goal.returns
 returns c =
     let is_stepped = c.step-s.ensures in
-    (linked_is _ _ _ _ _ _ is_stepped.0 c.put-count.ensures, is_stepped.1)
+    (linked_is _ _ _ _ _ _ is_stepped.0 c.put.ensures, is_stepped.1)

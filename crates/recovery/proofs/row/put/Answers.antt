@@ -6,4 +6,4 @@ pub returns-in_default : goal.returns-in_default
 returns-in_default c = put_none _ _ c.in_default.is
 
 pub returns : goal.returns
-returns c = put_here _ _ _ _ c.in-Here.is
+returns c = put_here _ _ _ c.in-Some.is

@@ -5,43 +5,31 @@ use borrow.Author.Rules.{rules}
 use Rattle.recovery.proofs.row.row.Goals as goal
 
 pub loop-i-init : goal.loop-i-init
-loop-i-init c = (omega arith, c.requires.sizes_value, row_start _ _ _ _ _)
+loop-i-init c = (c.requires.sizes_value, row_start _ _ _ _ _)
 
 pub offset_bounds-row_real-i : goal.offset_bounds-row_real-i
-offset_bounds-row_real-i c = let a = c.loop-i-test in let b = c.requires.made_bound in search (rules, a, b)
+offset_bounds-row_real-i c = let a = c.loop-i-test in let b = c.requires.given_row.symbols.room in search (rules, a, b)
 
 pub bounds-row_real-i : goal.bounds-row_real-i
-bounds-row_real-i c = let a = c.loop-i-test in let b = c.requires.made_bound in search (rules, a, b)
+bounds-row_real-i c = let a = c.loop-i-test in let b = c.requires.given_row.symbols.room in search (rules, a, b)
 
 pub offset_bounds-row_imaginary-i : goal.offset_bounds-row_imaginary-i
-offset_bounds-row_imaginary-i c = let a = c.loop-i-test in let b = c.requires.made_bound in search (rules, a, b)
+offset_bounds-row_imaginary-i c = let a = c.loop-i-test in let b = c.requires.given_row.symbols.room in search (rules, a, b)
 
 pub bounds-row_imaginary-i : goal.bounds-row_imaginary-i
-bounds-row_imaginary-i c = let a = c.loop-i-test in let b = c.requires.made_bound in search (rules, a, b)
+bounds-row_imaginary-i c = let a = c.loop-i-test in let b = c.requires.given_row.symbols.room in search (rules, a, b)
 
 pub link-t-requires : goal.link-t-requires
 link-t-requires c =
     let asked = c.requires in
     let so_far = c.loop-i.invariant in
     let more = c.loop-i-test in
-    record { given_row = row_asks _ _ _ _ _ _ _ _ asked.given_row so_far.2 (omega (arith, more)); sizes_value = so_far.1 }
-
-pub overflow_add-i : goal.overflow_add-i
-overflow_add-i c =
-    let more = c.loop-i-test in
-    let asked = c.requires in
-    record { fits = omega (arith, more, asked.made_bound) }
-
-pub loop-i-smaller : goal.loop-i-smaller
-loop-i-smaller c =
-    let more = c.loop-i-test in
-    omega (arith, more)
+    record { given_row = row_asks _ _ _ _ _ _ _ _ asked.given_row so_far.1 (omega (arith, more)); sizes_value = so_far.0 }
 
 pub loop-i-preserved : goal.loop-i-preserved
 loop-i-preserved c =
-    let more = c.loop-i-test in
     let so_far = c.loop-i.invariant in
-    (omega (arith, more), c.link-t.ensures.1, row_step _ _ _ _ _ _ _ _ c.link-t.ensures.0 so_far.2)
+    (c.link-t.ensures.1, row_step _ _ _ _ _ _ _ _ c.link-t.ensures.0 so_far.1)
 
 pub returns : goal.returns
-returns c = row_end _ _ _ _ _ _ _ _ c.requires.given_row c.loop-i.invariant.2 c.loop-i.invariant.0 (omega (arith, c.loop-i-test))
+returns c = row_end _ _ _ _ _ _ _ _ c.requires.given_row c.loop-i.invariant.1 (search rules) (search rules)
