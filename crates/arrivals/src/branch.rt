@@ -44,19 +44,17 @@ pub fn branches(
     prediction_real: &mut [f32; STATES],
     prediction_imaginary: &mut [f32; STATES],
 )
-    requires { (length costs.now ≡ 64) × (length sums.old ≡ 64) × (length prediction_real.old ≡ 64) × (length prediction_imaginary.old ≡ 64) }
+    requires { length costs.now ≡ 64 }
     ensures { Reads real imaginary (λ channels. Reads past_real past_imaginary (λ past.
         (sums.new ≡ upto (sum_with channels past costs.now s input reliable) 64)
         × (prediction_real.new ≡ upto (real_with channels past s) 64)
         × (prediction_imaginary.new ≡ upto (imaginary_with channels past s) 64))) }
 {
-    let mut p = 0;
-    while p < 64 {
+    for p in 0..64 {
         let prediction = predicted(real, imaginary, past_real, past_imaginary, s, p);
         let m = metric(input, prediction, reliable);
         sums[p] = costs[p] + m;
         prediction_real[p] = prediction.real;
         prediction_imaginary[p] = prediction.imaginary;
-        p += 1;
     }
 }

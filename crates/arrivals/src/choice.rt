@@ -78,14 +78,12 @@ pub fn choose(
     ensures { Lays cost prior chosen_real chosen_imaginary from
         (first_cheapest_of sums.now real.now imaginary.now) }
 {
-    let mut q = 0;
-    while q < 16 {
+    for q in 0..16 {
         let b = first_cheapest(sums, real, imaginary, q);
         cost[from + q] = b.cost;
         prior[from + q] = b.prior;
         chosen_real[from + q] = b.real;
         chosen_imaginary[from + q] = b.imaginary;
-        q += 1;
     }
 }
 
@@ -94,27 +92,23 @@ pub fn interleave(x: &[f32; STATES], out: &mut [f32])
     requires { length out.old ≡ 64 }
     ensures { out.new ≡ upto (λ s. get_or x.now (16 * (s % 4) + s / 4) nan) 64 }
 {
-    let mut q = 0;
-    while q < 16 {
+    for q in 0..16 {
         out[4 * q] = x[q];
         out[4 * q + 1] = x[16 + q];
         out[4 * q + 2] = x[32 + q];
         out[4 * q + 3] = x[48 + q];
-        q += 1;
     }
 }
 
 // The same for priors: each is below 64 and fits a byte.
 pub fn interleave_priors(x: &[u32; STATES], out: &mut [u8; STATES])
-    requires { (length out.old ≡ 64) × Parents x.now }
+    requires { Parents x.now }
     ensures { out.new ≡ upto (λ s. get_or x.now (16 * (s % 4) + s / 4) 0) 64 }
 {
-    let mut q = 0;
-    while q < 16 {
+    for q in 0..16 {
         out[4 * q] = x[q] as u8;
         out[4 * q + 1] = x[16 + q] as u8;
         out[4 * q + 2] = x[32 + q] as u8;
         out[4 * q + 3] = x[48 + q] as u8;
-        q += 1;
     }
 }

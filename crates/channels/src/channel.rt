@@ -1,5 +1,5 @@
 // The four taps of one state, read from the planes and written there.
-ghost use Rattle.std.specs.Prelude.{◌≡◌, ◌<◌, length};
+ghost use Rattle.std.specs.Prelude.{◌≡◌, ◌<◌};
 ghost use Rattle.channels.specs.Layout.{put_of};
 ghost use Rattle.complex.specs.Lends.{Reads};
 ghost use Rattle.channels.specs.Channels.{taps_of};
@@ -43,7 +43,7 @@ pub fn taps_at(real: &[f32; CHANNELS], imaginary: &[f32; CHANNELS], state: usize
 
 // One part of a state's taps, put in its four places of a plane.
 fn put(plane: &mut [f32; CHANNELS], state: usize, main: f32, one: f32, two: f32, three: f32)
-    requires { (state < 64) × (length plane.old ≡ 256) }
+    requires { state < 64 }
     ensures { plane.new ≡ put_of plane.old state main one two three }
 {
     plane[state] = main;
@@ -54,7 +54,7 @@ fn put(plane: &mut [f32; CHANNELS], state: usize, main: f32, one: f32, two: f32,
 
 // The taps of one state, put in their places of both planes.
 pub fn put_taps(real: &mut [f32; CHANNELS], imaginary: &mut [f32; CHANNELS], state: usize, t: Taps)
-    requires { (state < 64) × (length real.old ≡ 256) × (length imaginary.old ≡ 256) }
+    requires { state < 64 }
     ensures real_after { real.new ≡ put_of real.old state t.main.real t.one.real t.two.real t.three.real }
     ensures imaginary_after { imaginary.new ≡ put_of imaginary.old state t.main.imaginary t.one.imaginary t.two.imaginary t.three.imaginary }
 {

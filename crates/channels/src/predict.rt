@@ -1,5 +1,5 @@
 // What a prior state's taps predict for a new symbol.
-ghost use Rattle.std.specs.Prelude.{◌≡◌, ◌<◌, ◌/◌, ◌%◌, length};
+ghost use Rattle.std.specs.Prelude.{◌≡◌, ◌<◌, ◌/◌, ◌%◌};
 ghost use Rattle.laws.specs.Places.{upto};
 ghost use Rattle.channels.specs.Layout.{past_of, predicted_of};
 ghost use Rattle.complex.specs.Lends.{Reads};
@@ -11,7 +11,8 @@ use complex::{Complex32, multiplied};
 
 // The product of the tap at a place of the planes with the symbol k.
 fn term(real: &[f32; CHANNELS], imaginary: &[f32; CHANNELS], at: usize, k: u32) -> Complex32
-    requires { (at < 256) × (k < 4) }
+    requires at_of_plane { at < 256 }
+    requires k_of_four { k < 4 }
     ensures { Reads real imaginary (λ channels. result ≡ term_of channels at k) }
 {
     multiplied(
@@ -31,13 +32,11 @@ pub fn past_terms(
     past_real: &mut [f32; PAST_TERMS],
     past_imaginary: &mut [f32; PAST_TERMS],
 )
-    requires { (length past_real.old ≡ 192) × (length past_imaginary.old ≡ 192) }
     ensures { Reads real imaginary (λ channels.
         (past_real.new ≡ upto (λ i. (past_of channels (i / 64) (i % 64)).real) 192)
         × (past_imaginary.new ≡ upto (λ i. (past_of channels (i / 64) (i % 64)).imaginary) 192)) }
 {
-    let mut p = 0;
-    while p < 64 {
+    for p in 0..64 {
         let held = p as u32;
         let one = term(real, imaginary, p + 64, held % 4);
         let two = term(real, imaginary, p + 128, held / 4 % 4);
@@ -48,7 +47,6 @@ pub fn past_terms(
         past_imaginary[p] = one.imaginary;
         past_imaginary[p + 64] = two.imaginary;
         past_imaginary[p + 128] = three.imaginary;
-        p += 1;
     }
 }
 

@@ -1,5 +1,5 @@
 // What the four symbols of each lane say of its inverse.
-ghost use Rattle.std.specs.Prelude.{◌≡◌, ◌+◌, ◌<◌, length};
+ghost use Rattle.std.specs.Prelude.{◌≡◌, ◌+◌, ◌<◌};
 ghost use Rattle.laws.specs.Places.{upto};
 ghost use Rattle.complex.specs.Complex.{product_of, conjugate_product_of};
 ghost use Rattle.least_squares.specs.Lanes.{pair_at, lanes_of, inverse_in, row_in, four_in, real_in};
@@ -11,7 +11,8 @@ use least_squares::{EIGHTS, FOURS, INVERSES, LANES};
 
 // A number of the inverse times the conjugate of a symbol.
 fn projection(w: &[f32; INVERSES], u: &[f32; FOURS], at: usize, l: usize) -> Complex32
-    requires { (at < 1024) × (l < 64) }
+    requires at_of_half { at < 1024 }
+    requires l_of_half { l < 64 }
     ensures { result ≡ conjugate_product_of (pair_at 1024 w.now at) (pair_at 64 u.now l) }
 {
     Complex32 {
@@ -22,7 +23,8 @@ fn projection(w: &[f32; INVERSES], u: &[f32; FOURS], at: usize, l: usize) -> Com
 
 // A symbol times a number of the inverse.
 fn crossing(w: &[f32; INVERSES], u: &[f32; FOURS], at: usize, l: usize) -> Complex32
-    requires { (at < 1024) × (l < 64) }
+    requires at_of_half { at < 1024 }
+    requires l_of_half { l < 64 }
     ensures { result ≡ product_of (pair_at 64 u.now l) (pair_at 1024 w.now at) }
 {
     Complex32 {
@@ -43,7 +45,8 @@ fn four_sum(a: Complex32, b: Complex32, c: Complex32, d: Complex32) -> Complex32
 
 // The first four numbers of a row of the inverse, from a place on, times the symbols' conjugates.
 fn projected(w: &[f32; INVERSES], u: &[f32; FOURS], at: usize, l: usize) -> Complex32
-    requires { (at + 48 < 1024) × (l < 16) }
+    requires four_of_row { at + 48 < 1024 }
+    requires l_of_lanes { l < 16 }
     ensures { result ≡ projected_at w.now u.now at l }
 {
     four_sum(
@@ -56,25 +59,21 @@ fn projected(w: &[f32; INVERSES], u: &[f32; FOURS], at: usize, l: usize) -> Comp
 
 // Of each lane: the first four columns of its inverse times its symbols' conjugates.
 pub fn project(w: &[f32; INVERSES], u: &[f32; FOURS], v: &mut [f32; EIGHTS])
-    requires { length v.old ≡ 256 }
     ensures { v.new ≡ lanes_of 128 (λ l. projected_of (inverse_in w.now l) (four_in u.now l)) }
 {
-    let mut i = 0;
-    while i < 8 {
-        let mut l = 0;
-        while l < 16 {
+    for i in 0..8 {
+        for l in 0..16 {
             let z = projected(w, u, 128 * i + l, l);
             v[16 * i + l] = z.real;
             v[16 * i + l + 128] = z.imaginary;
-            l += 1;
         }
-        i += 1;
     }
 }
 
 // The symbols times the first four numbers of a column, from a place on.
 fn crossed(w: &[f32; INVERSES], u: &[f32; FOURS], at: usize, l: usize) -> Complex32
-    requires { (at + 384 < 1024) × (l < 16) }
+    requires four_of_column { at + 384 < 1024 }
+    requires l_of_lanes { l < 16 }
     ensures { result ≡ crossed_at w.now u.now at l }
 {
     four_sum(
@@ -87,19 +86,14 @@ fn crossed(w: &[f32; INVERSES], u: &[f32; FOURS], at: usize, l: usize) -> Comple
 
 // Of each lane: its symbols times the first four rows of its inverse.
 pub fn cross(w: &[f32; INVERSES], u: &[f32; FOURS], row: &mut [f32; EIGHTS])
-    requires { length row.old ≡ 256 }
     ensures { row.new ≡ lanes_of 128 (λ l. crossed_of (inverse_in w.now l) (four_in u.now l)) }
 {
-    let mut j = 0;
-    while j < 8 {
-        let mut l = 0;
-        while l < 16 {
+    for j in 0..8 {
+        for l in 0..16 {
             let z = crossed(w, u, 16 * j + l, l);
             row[16 * j + l] = z.real;
             row[16 * j + l + 128] = z.imaginary;
-            l += 1;
         }
-        j += 1;
     }
 }
 
@@ -120,18 +114,16 @@ fn denominator(u: &[f32; FOURS], v: &[f32; EIGHTS], l: usize) -> f32
 
 // Of each lane: 0.8 and the real part of its symbols times what they project.
 pub fn denominators(u: &[f32; FOURS], v: &[f32; EIGHTS], d: &mut [f32; LANES])
-    requires { length d.old ≡ 16 }
     ensures { d.new ≡ upto (λ l. denominator_of (four_in u.now l) (row_in v.now l)) 16 }
 {
-    let mut l = 0;
-    while l < 16 {
+    for l in 0..16 {
         d[l] = denominator(u, v, l);
-        l += 1;
     }
 }
 
 fn divided(v: &[f32; EIGHTS], d: &[f32; LANES], at: usize, l: usize) -> Complex32
-    requires { (at < 128) × (l < 16) }
+    requires at_of_half { at < 128 }
+    requires l_of_lanes { l < 16 }
     ensures { result ≡ divided_at v.now d.now at l }
 {
     Complex32 {
@@ -142,18 +134,13 @@ fn divided(v: &[f32; EIGHTS], d: &[f32; LANES], at: usize, l: usize) -> Complex3
 
 // Of each lane: what its symbols project, over its denominator.
 pub fn divide(v: &[f32; EIGHTS], d: &[f32; LANES], gain: &mut [f32; EIGHTS])
-    requires { length gain.old ≡ 256 }
     ensures { gain.new ≡ lanes_of 128 (λ l. gain_of (row_in v.now l) (real_in d.now l)) }
 {
-    let mut i = 0;
-    while i < 8 {
-        let mut l = 0;
-        while l < 16 {
+    for i in 0..8 {
+        for l in 0..16 {
             let z = divided(v, d, 16 * i + l, l);
             gain[16 * i + l] = z.real;
             gain[16 * i + l + 128] = z.imaginary;
-            l += 1;
         }
-        i += 1;
     }
 }

@@ -1,5 +1,5 @@
 // The gain of a step, its denominator, and the row that the inverse is reduced by.
-ghost use Rattle.std.specs.Prelude.{◌≡◌, length};
+ghost use Rattle.std.specs.Prelude.{◌≡◌};
 ghost use Rattle.laws.specs.Places.{upto};
 ghost use Rattle.least_squares.specs.Lanes.{lanes_of, inverse_in, four_in};
 ghost use Rattle.least_squares.specs.LeastSquares.{weight_of, crossed_of, gain_for};
@@ -15,7 +15,6 @@ pub fn weigh(
     row: &mut [f32; EIGHTS],
     d: &mut [f32; LANES],
 )
-    requires { (length gain.old ≡ 256) × (length row.old ≡ 256) × (length d.old ≡ 16) }
     ensures gain_after { gain.new ≡ lanes_of 128 (λ l. gain_for (inverse_in w.now l) (four_in u.now l)) }
     ensures row_after { row.new ≡ lanes_of 128 (λ l. crossed_of (inverse_in w.now l) (four_in u.now l)) }
     ensures d_after { d.new ≡ upto (λ l. weight_of (inverse_in w.now l) (four_in u.now l)) 16 }

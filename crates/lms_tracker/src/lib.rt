@@ -2,7 +2,7 @@
 // LMS steps, so that its prediction comes nearer to the input.
 #![tactic(auto)]
 
-ghost use Rattle.std.specs.Prelude.{◌≡◌, ◌+◌, ◌*◌, ◌/◌, ◌%◌, ◌<◌, length};
+ghost use Rattle.std.specs.Prelude.{◌≡◌, ◌+◌, ◌*◌, ◌/◌, ◌%◌, ◌<◌};
 ghost use Rattle.laws.specs.Places.{upto};
 ghost use Rattle.lms_tracker.specs.Layout.{scaled_column, limit_column, limited_at};
 ghost use Rattle.complex.specs.Lends.{Reads, Leaves};
@@ -40,18 +40,15 @@ fn moved(tap: Complex32, step: f32, error: Complex32, s: Complex32) -> Complex32
 
 // A prior's taps moved by the error, with the newest symbol and the prior's three.
 fn learnt(t: Taps, error: Complex32, newest: u32, prior: u32) -> Taps
-    requires { (newest < 4) × (prior < 64) }
+    requires newest_of_four { newest < 4 }
+    requires prior_of_64 { prior < 64 }
     ensures { result ≡ learnt_of t error newest prior }
 {
-    let main = t.main;
-    let one = t.one;
-    let two = t.two;
-    let three = t.three;
     Taps {
-        main: moved(main, MAIN_STEP, error, symbol(newest)),
-        one: moved(one, FIRST_STEP, error, symbol(prior % 4)),
-        two: moved(two, LATER_STEP, error, symbol(prior / 4 % 4)),
-        three: moved(three, LATER_STEP, error, symbol(prior / 16)),
+        main: moved(t.main, MAIN_STEP, error, symbol(newest)),
+        one: moved(t.one, FIRST_STEP, error, symbol(prior % 4)),
+        two: moved(t.two, LATER_STEP, error, symbol(prior / 4 % 4)),
+        three: moved(t.three, LATER_STEP, error, symbol(prior / 16)),
     }
 }
 
@@ -59,11 +56,7 @@ fn learnt(t: Taps, error: Complex32, newest: u32, prior: u32) -> Taps
 fn norm_of(t: Taps) -> f32
     ensures { result ≡ norm_of t }
 {
-    let main = t.main;
-    let one = t.one;
-    let two = t.two;
-    let three = t.three;
-    0.0 + power(main) + power(one) + power(two) + power(three)
+    0.0 + power(t.main) + power(t.one) + power(t.two) + power(t.three)
 }
 
 // Each state's taps are its parent's, moved by its error and its symbols; and their power.
@@ -78,15 +71,13 @@ fn learn(
     imaginary: &mut [f32; CHANNELS],
     norms: &mut [f32; STATES],
 )
-    requires { Parents parents.now × (length real.old ≡ 256) × (length imaginary.old ≡ 256) × (length norms.old ≡ 64) }
+    requires { Parents parents.now }
     ensures { Reads old_real old_imaginary (λ old. Reads prediction_real prediction_imaginary (λ predictions.
         (real.new ≡ (laid_out (learnt_at old parents.now predictions input)).real)
         × (imaginary.new ≡ (laid_out (learnt_at old parents.now predictions input)).imaginary)
         × (norms.new ≡ upto (λ s. norm_of (learnt_at old parents.now predictions input s)) 64))) }
 {
-    let mut s = 0;
-    while s < 64 {
-        let prior = parents[s];
+    for (s, &prior) in parents.iter().enumerate() {
         let prediction = Complex32 {
             real: prediction_real[s],
             imaginary: prediction_imaginary[s],
@@ -99,13 +90,12 @@ fn learn(
         );
         put_taps(real, imaginary, s, t);
         norms[s] = norm_of(t);
-        s += 1;
     }
 }
 
 // One state's part of a plane, times the gain.
 fn scale(plane: &mut [f32; CHANNELS], state: usize, gain: f32)
-    requires { (state < 64) × (length plane.old ≡ 256) }
+    requires { state < 64 }
     ensures { plane.new ≡ scaled_column gain state plane.old }
 {
     plane[state] = plane[state] * gain;
@@ -116,7 +106,7 @@ fn scale(plane: &mut [f32; CHANNELS], state: usize, gain: f32)
 
 // One state's taps, brought back to a power of 16 where theirs is above it.
 fn limit_taps(real: &mut [f32; CHANNELS], imaginary: &mut [f32; CHANNELS], state: usize, norm: f32)
-    requires { (state < 64) × (length real.old ≡ 256) × (length imaginary.old ≡ 256) }
+    requires { state < 64 }
     ensures real_after { real.new ≡ limit_column norm state real.old }
     ensures imaginary_after { imaginary.new ≡ limit_column norm state imaginary.old }
 {
@@ -129,14 +119,11 @@ fn limit_taps(real: &mut [f32; CHANNELS], imaginary: &mut [f32; CHANNELS], state
 
 // The taps of every state, each limited by its own power.
 fn limit(real: &mut [f32; CHANNELS], imaginary: &mut [f32; CHANNELS], norms: &[f32; STATES])
-    requires { (length real.old ≡ 256) × (length imaginary.old ≡ 256) }
     ensures real_after { real.new ≡ upto (limited_at norms.now real.old) 256 }
     ensures imaginary_after { imaginary.new ≡ upto (limited_at norms.now imaginary.old) 256 }
 {
-    let mut s = 0;
-    while s < 64 {
-        limit_taps(real, imaginary, s, norms[s]);
-        s += 1;
+    for (s, &norm) in norms.iter().enumerate() {
+        limit_taps(real, imaginary, s, norm);
     }
 }
 
@@ -148,16 +135,14 @@ fn inherit(
     real: &mut [f32; CHANNELS],
     imaginary: &mut [f32; CHANNELS],
 )
-    requires { Parents parents.now × (length real.old ≡ 256) × (length imaginary.old ≡ 256) }
+    requires { Parents parents.now }
     ensures { Reads old_real old_imaginary (λ old.
         (real.new ≡ (laid_out (inherited_at old parents.now)).real)
         × (imaginary.new ≡ (laid_out (inherited_at old parents.now)).imaginary)) }
 {
-    let mut s = 0;
-    while s < 64 {
-        let t = taps_at(old_real, old_imaginary, parents[s] as usize);
+    for (s, &parent) in parents.iter().enumerate() {
+        let t = taps_at(old_real, old_imaginary, parent as usize);
         put_taps(real, imaginary, s, t);
-        s += 1;
     }
 }
 
@@ -172,7 +157,7 @@ pub fn follow(
     input: Complex32,
     reliable: bool,
 )
-    requires { Parents parents.now × (length real.old ≡ 256) × (length imaginary.old ≡ 256) }
+    requires { Parents parents.now }
     ensures { Leaves real imaginary (λ before after. Reads prediction_real prediction_imaginary (λ predictions.
         after ≡ followed_of before parents.now predictions input reliable)) }
 {

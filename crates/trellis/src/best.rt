@@ -1,5 +1,5 @@
 // The first cheapest state, and its cost taken off all.
-ghost use Rattle.std.specs.Prelude.{◌≡◌, ◌+◌, ◌<◌, length, get_or};
+ghost use Rattle.std.specs.Prelude.{◌≡◌, ◌+◌, ◌<◌, get_or};
 ghost use Rattle.std.specs.Float.Ieee as Ieee;
 ghost use Rattle.laws.specs.Places.{upto};
 ghost use Rattle.trellis.specs.Trellis.{best_of};
@@ -46,13 +46,11 @@ pub fn cheapest(costs: &[f32; STATES]) -> Least
         state: 48,
         cost: costs[48],
     };
-    let mut k = 0;
-    while k < 15 {
+    for k in 0..15 {
         a = nearer(a, costs[k + 1], k + 1);
         b = nearer(b, costs[k + 17], k + 17);
         c = nearer(c, costs[k + 33], k + 33);
         d = nearer(d, costs[k + 49], k + 49);
-        k += 1;
     }
     let ab = nearer(a, b.cost, b.state);
     let abc = nearer(ab, c.cost, c.state);
@@ -61,12 +59,9 @@ pub fn cheapest(costs: &[f32; STATES]) -> Least
 
 // Takes one cost off the costs of all states.
 pub fn take_off(costs: &mut [f32; STATES], least: f32)
-    requires { length costs.old ≡ 64 }
     ensures { costs.new ≡ upto (λ s. Ieee.sub Ieee.binary32 (get_or costs.old s Ieee.nan) least) 64 }
 {
-    let mut s = 0;
-    while s < 64 {
-        costs[s] = costs[s] - least;
-        s += 1;
+    for cost in costs.iter_mut() {
+        *cost -= least;
     }
 }

@@ -36,10 +36,10 @@ fn sweep(
     chosen_real: &mut [f32; STATES],
     chosen_imaginary: &mut [f32; STATES],
 )
-    requires { (k < 4) × (length costs.now ≡ 64) × (length sums.old ≡ 64) × (length prediction_real.old ≡ 64) × (length prediction_imaginary.old ≡ 64) }
-    ensures reads { Reads real imaginary (λ channels. Reads past_real past_imaginary (λ past.
+    requires k_of_four { k < 4 }
+    requires costs_len { length costs.now ≡ 64 }
+    ensures { Reads real imaginary (λ channels. Reads past_real past_imaginary (λ past.
         Lays cost prior chosen_real chosen_imaginary (16 * k) (swept_of channels past costs.now input reliable k))) }
-    ensures sums_len { (length sums.new ≡ 64) × (length prediction_real.new ≡ 64) × (length prediction_imaginary.new ≡ 64) }
 {
     branches(
         real,
@@ -78,7 +78,7 @@ fn extend(
     prediction_real: &mut [f32; STATES],
     prediction_imaginary: &mut [f32; STATES],
 )
-    requires { (length costs.old ≡ 64) × (length parents.old ≡ 64) × (length prediction_real.old ≡ 64) × (length prediction_imaginary.old ≡ 64) }
+    requires { length costs.old ≡ 64 }
     ensures reads { Reads real imaginary (λ channels.
         Fills costs parents prediction_real prediction_imaginary (arrival_of channels costs.old input reliable)) }
     ensures values { Values costs.old }
@@ -93,8 +93,7 @@ fn extend(
     let mut prior = [0; STATES];
     let mut chosen_real = [0.0; STATES];
     let mut chosen_imaginary = [0.0; STATES];
-    let mut k = 0;
-    while k < 4 {
+    for k in 0..4 {
         sweep(
             real,
             imaginary,
@@ -112,7 +111,6 @@ fn extend(
             &mut chosen_real,
             &mut chosen_imaginary,
         );
-        k += 1;
     }
     interleave(&cost, costs);
     interleave_priors(&prior, parents);
@@ -131,7 +129,6 @@ pub fn advance(
     prediction_real: &mut [f32; STATES],
     prediction_imaginary: &mut [f32; STATES],
 ) -> usize
-    requires { (length costs.old ≡ 64) × (length parents.old ≡ 64) × (length prediction_real.old ≡ 64) × (length prediction_imaginary.old ≡ 64) }
     ensures reads { Reads real imaginary (λ channels.
         Leaves result costs parents prediction_real prediction_imaginary (λ after. after ≡ advanced_of channels costs.old input reliable)) }
     ensures near { (result < 64) × Parents parents.new }

@@ -1,10 +1,6 @@
 -- `follow::follow` meets its contract: where the input is reliable the taps that `learn` lays out, limited, and else those that `inherit` lays out.
-use Rattle.channels.specs.Laws.{real_length, imaginary_length}
 use Rattle.lms_tracker.specs.Laws.{followed_yes, followed_no}
 use Rattle.lms_tracker.proofs.follow.Goals as goal
-
-pub limit-requires : goal.limit-requires
-limit-requires c = (real_length _ _ c.learn.ensures.0, imaginary_length _ _ c.learn.ensures.1)
 
 pub returns-then-reliable : goal.returns-then-reliable
 returns-then-reliable c =

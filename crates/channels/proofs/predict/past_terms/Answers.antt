@@ -5,18 +5,17 @@ use borrow.Author.Rules.{rules}
 use Rattle.channels.proofs.predict.past_terms.Goals as goal
 
 pub loop-p-init : goal.loop-p-init
-loop-p-init c = (search rules, turns_start _ _, turns_start _ _)
+loop-p-init c = (turns_start _ _, turns_start _ _)
 
 pub loop-p-preserved : goal.loop-p-preserved
 loop-p-preserved c =
     let laid = c.loop-p.invariant in (
-      search rules,
-      past_step (λ z. z.real) _ _ _ _ _ _ _ c.term-one.ensures c.term-two.ensures c.term-three.ensures laid.1,
-      past_step (λ z. z.imaginary) _ _ _ _ _ _ _ c.term-one.ensures c.term-two.ensures c.term-three.ensures laid.2,
+      past_step (λ z. z.real) _ _ _ _ _ _ _ c.term-one.ensures c.term-two.ensures c.term-three.ensures laid.0,
+      past_step (λ z. z.imaginary) _ _ _ _ _ _ _ c.term-one.ensures c.term-two.ensures c.term-three.ensures laid.1,
     )
 
 pub returns : goal.returns
 returns c = (
-  past_end (λ z. z.real) _ _ _ _ c.loop-p.invariant.1 (search rules) (search rules) c.requires.0,
-  past_end (λ z. z.imaginary) _ _ _ _ c.loop-p.invariant.2 (search rules) (search rules) c.requires.1,
+  past_end (λ z. z.real) _ _ _ _ c.loop-p.invariant.0 (search rules) (search rules) (search rules),
+  past_end (λ z. z.imaginary) _ _ _ _ c.loop-p.invariant.1 (search rules) (search rules) (search rules),
 )

@@ -6,12 +6,12 @@ use borrow.Author.Rules.{rules}
 use Rattle.lane_sums.proofs.sums.denominators.Goals as goal
 
 pub loop-l-init : goal.loop-l-init
-loop-l-init c = (search rules, fill_start _ _)
+loop-l-init c = fill_start _ _
 
 pub loop-l-preserved : goal.loop-l-preserved
 loop-l-preserved c =
     let laid = c.loop-l.invariant in
-    (search rules, denominator_step _ _ _ _ _ _ c.denominator.ensures laid.1)
+    denominator_step _ _ _ _ _ _ c.denominator.ensures laid
 
 pub returns : goal.returns
-returns c = fill_end _ _ 16 _ _ nan c.loop-l.invariant.1 (search rules) (search rules) c.requires
+returns c = fill_end _ _ 16 _ _ nan c.loop-l.invariant (search rules) (search rules) (search rules)

@@ -4,11 +4,6 @@ use native.Mathlib.Omega.{arith}
 use Rattle.sequence.specs.Steps.{asked_table, step_meets}
 use Rattle.sequence.proofs.step.step.Goals as goal
 
-pub advance-best-requires : goal.advance-best-requires
-advance-best-requires c =
-    let given = c.requires in
-    (given.ranged.costs_size, given.roomy.row_size, given.roomy.real_size, given.roomy.imaginary_size)
-
 pub overflow_cast-prior : goal.overflow_cast-prior
 overflow_cast-prior c =
     let advanced = c.advance-best.ensures in

@@ -5,18 +5,17 @@ use borrow.Author.Rules.{rules}
 use Rattle.trellis.proofs.best.cheapest.Goals as goal
 
 pub loop-k-init : goal.loop-k-init
-loop-k-init c = (search rules, scan_start _ _, scan_start _ _, scan_start _ _, scan_start _ _)
+loop-k-init c = (scan_start _ _, scan_start _ _, scan_start _ _, scan_start _ _)
 
 pub loop-k-preserved : goal.loop-k-preserved
 loop-k-preserved c =
     let scanned = c.loop-k.invariant in
     let first = c.nearer-a.ensures in
     let second = c.nearer-b.ensures in (
-      search rules,
-      scan_step _ _ _ _ _ _ (omega arith) first scanned.1,
-      scan_step _ _ _ _ _ _ (omega arith) second scanned.2,
-      scan_step _ _ _ _ _ _ (omega arith) c.nearer-c.ensures scanned.3,
-      scan_step _ _ _ _ _ _ (omega arith) c.nearer-d.ensures scanned.4,
+      scan_step _ _ _ _ _ _ (omega arith) first scanned.0,
+      scan_step _ _ _ _ _ _ (omega arith) second scanned.1,
+      scan_step _ _ _ _ _ _ (omega arith) c.nearer-c.ensures scanned.2,
+      scan_step _ _ _ _ _ _ (omega arith) c.nearer-d.ensures scanned.3,
     )
 
 pub returns : goal.returns
@@ -24,5 +23,5 @@ returns c =
     let plain = c.requires in
     let scanned = c.loop-k.invariant in
     quarters _ _ _ _ _ _ _ _ _ plain (search rules) (search rules)
-    scanned.1 scanned.2 scanned.3 scanned.4
+    scanned.0 scanned.1 scanned.2 scanned.3
     c.nearer-ab.ensures c.nearer-abc.ensures c.nearer.ensures

@@ -4,12 +4,12 @@ use Rattle.trellis.specs.Laws.{off_turn, off_end}
 use borrow.Author.Rules.{rules}
 use Rattle.trellis.proofs.best.take_off.Goals as goal
 
-pub loop-s-init : goal.loop-s-init
-loop-s-init c = (search rules, turns_start _ _)
+pub loop-cost-init : goal.loop-cost-init
+loop-cost-init c = turns_start _ _
 
-pub loop-s-preserved : goal.loop-s-preserved
+pub loop-cost-preserved : goal.loop-cost-preserved
 unfolding off_turn
-loop-s-preserved c = (search rules, turns_step _ _ _ _ c.loop-s.invariant.1)
+loop-cost-preserved c = turns_step _ _ _ _ c.loop-cost.invariant
 
 pub returns : goal.returns
-returns c = off_end _ _ _ _ c.loop-s.invariant.1 (search rules) (search rules) c.requires
+returns c = off_end _ _ _ _ c.loop-cost.invariant (search rules) (search rules) (search rules)

@@ -1,19 +1,13 @@
 -- `step::sweep` meets its contract: the choice among the branches that `branches` has written for the symbol k.
-use mathlib.Core.Path.{ap, ◌∙◌}
-use lib.ListN.{length}
-use Rattle.laws.specs.Places.{length_upto}
 use Rattle.arrivals.specs.Laws.{sweep_is}
 use Rattle.trellis.proofs.step.sweep.Goals as goal
 
 pub returns : goal.returns
 returns c =
     let s = c.symbol.ensures in
-    let written = c.branches.ensures in record {
-      reads = (
-        sweep_is (λ b. b.cost) _ _ _ _ _ _ _ _ _ _ _ _ _ s written.0 written.1 written.2 c.choose.ensures.0,
-        sweep_is (λ b. b.prior) _ _ _ _ _ _ _ _ _ _ _ _ _ s written.0 written.1 written.2 c.choose.ensures.1,
-        sweep_is (λ b. b.real) _ _ _ _ _ _ _ _ _ _ _ _ _ s written.0 written.1 written.2 c.choose.ensures.2,
-        sweep_is (λ b. b.imaginary) _ _ _ _ _ _ _ _ _ _ _ _ _ s written.0 written.1 written.2 c.choose.ensures.3,
-      );
-      sums_len = (ap length written.0 ∙ length_upto _ 64, ap length written.1 ∙ length_upto _ 64, ap length written.2 ∙ length_upto _ 64);
-    }
+    let written = c.branches.ensures in (
+      sweep_is (λ b. b.cost) _ _ _ _ _ _ _ _ _ _ _ _ _ s written.0 written.1 written.2 c.choose.ensures.0,
+      sweep_is (λ b. b.prior) _ _ _ _ _ _ _ _ _ _ _ _ _ s written.0 written.1 written.2 c.choose.ensures.1,
+      sweep_is (λ b. b.real) _ _ _ _ _ _ _ _ _ _ _ _ _ s written.0 written.1 written.2 c.choose.ensures.2,
+      sweep_is (λ b. b.imaginary) _ _ _ _ _ _ _ _ _ _ _ _ _ s written.0 written.1 written.2 c.choose.ensures.3,
+    )
