@@ -9,6 +9,14 @@ use numbers::bits::{float32, pattern, pattern32};
 
 const OUT: i32 = 1;
 
+// The next record of N bytes from standard input, if a whole one is left. A program runs
+// `for r in std::iter::from_fn(record::<N>).take(1_000_000)`, which ends with the input or after a million.
+pub fn record<const N: usize>() -> Option<[u8; N]> {
+    let mut bytes = [0; N];
+    let got = io::read_full(0, &mut bytes);
+    (got == N).then_some(bytes)
+}
+
 // The digest h with one answer more. Each step can be undone, so a single wrong answer always shows.
 pub fn mixed(h: u64, x: u64) -> u64 {
     let a = h ^ x;

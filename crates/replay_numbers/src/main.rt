@@ -5,7 +5,7 @@
 ghost use Rattle.std.specs.Prelude.{◌≤◌};
 
 use numbers::{bits, compare, narrow};
-use replay::{mixed, mixed_flag, mixed_float, mixed_float32, print_line, word};
+use replay::{mixed, mixed_flag, mixed_float, mixed_float32, print_line, record, word};
 
 #[derive(Clone, Copy)]
 struct Range {
@@ -135,27 +135,8 @@ fn digest(a: u64, b: u64, c: u64) -> u64 {
     decoded(h4, a)
 }
 
-// Whether a record was read, and answered.
-fn answered() -> bool {
-    let mut record = [0u8; 24];
-    let got = io::read_full(0, &mut record);
-    if got < 24 {
-        return false;
-    }
-    print_line(
-        digest(word(&record, 0), word(&record, 8), word(&record, 16)),
-        16,
-    );
-    true
-}
-
 fn main() {
-    let mut left: u64 = 1000000;
-    while left > 0 {
-        if answered() {
-            left -= 1;
-        } else {
-            left = 0;
-        }
+    for r in std::iter::from_fn(record::<24>).take(1_000_000) {
+        print_line(digest(word(&r, 0), word(&r, 8), word(&r, 16)), 16);
     }
 }
