@@ -1,6 +1,7 @@
 -- Bytes read one at a time are the bytes from a place on. Assumes nothing.
 use Rattle.std.specs.Prelude.{◌≡◌, List, [], ◌∷◌, ◌++◌, ℕ, suc, ◌+◌, ◌≤◌, ◌<◌, length, get_or, set, take, drop, Float}
 use Rattle.std.proofs.Common.{ap, sym, ◌∙◌, arith, drop-cons}
+use Rattle.std.specs.Int.{w32, from_le_bytes}
 use Rattle.laws.specs.Turns.{turns_end}
 use Rattle.laws.specs.Places.{fill, turns_fill}
 use Rattle.numbers.specs.Bits.{little_endian}
@@ -42,6 +43,15 @@ pub word_eight : (s : List ℕ) (i : ℕ) → i + 8 ≤ length s
     → little_endian (get_or s i 0 ∷ get_or s (i + 1) 0 ∷ get_or s (i + 2) 0 ∷ get_or s (i + 3) 0 ∷ get_or s (i + 4) 0 ∷ get_or s (i + 5) 0 ∷ get_or s (i + 6) 0 ∷ get_or s (i + 7) 0 ∷ []) ≡ word_at 8 s i
 unfolding word_at
 word_eight s i h = ap little_endian (eight_from s i h)
+
+-- four bytes as a number in the library's words
+pub four_are : (s : List ℕ) → length s ≡ 4 → from_le_bytes w32 s ≡ little_endian s
+four_are [] h = omega arith
+four_are (a ∷ []) h = omega arith
+four_are (a ∷ b ∷ []) h = omega arith
+four_are (a ∷ b ∷ c ∷ []) h = omega arith
+four_are (a ∷ b ∷ c ∷ d ∷ []) h = omega arith
+four_are (a ∷ b ∷ c ∷ d ∷ e ∷ s) h = omega arith
 
 -- a row of floats, stored from the start on
 pub filled_end : (source : List ℕ) (i n : ℕ) (l m : List Float) → m ≡ fill (float_at source) i l → i ≤ n → n ≤ i → n ≤ length l

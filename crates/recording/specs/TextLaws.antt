@@ -1,6 +1,7 @@
 -- Texts put one after another, and how long a number is. Assumes nothing.
 use Rattle.std.specs.Prelude.{◌≡◌, refl, false, List, [], ◌∷◌, ◌++◌, ℕ, zero, suc, ◌+◌, ◌-◌, ◌*◌, ◌/◌, ◌%◌, ◌^◌, ◌≤◌, ◌<◌, length, get_or, set, take, drop}
-use Rattle.std.proofs.Common.{ap, ◌∙◌, ⊎_elim, pow-suc, add-one, arith, length-append, take-suc, take_all, length-take-le, lt-ltb, le-ltb}
+use Rattle.std.proofs.Common.{ap, ◌∙◌, ⊎_elim, pow-suc, add-one, arith, length-append, take-suc, take_all, length-take-le, append_assoc, lt-ltb, le-ltb}
+use Rattle.std.proofs.lemmas.List.{drop-drop}
 use Rattle.std.proofs.lemmas.List.Edits.{sets, sets-eq}
 use Rattle.std.proofs.Math.Seq.{length-sets}
 use Rattle.laws.specs.Ring.{lt_or_ge}
@@ -241,3 +242,10 @@ pub put_is : (t : List ℕ) (at : ℕ) (l : List ℕ) → at + length t ≤ leng
     → put t (written_of at l) ≡ written_of (at + length t) (take at l ++ t ++ drop (at + length t) l)
 unfolding put
 put_is t at l h = rw (sets-eq t l at h)
+
+-- and a part of a buffer that takes its text puts it
+pub put_part : (t : List ℕ) (at : ℕ) (l : List ℕ) → at + length t ≤ length l
+    → written_of (at + length t) (take at l ++ (t ++ drop (at + length t - at) (drop at l))) ≡ put t (written_of at l)
+put_part t at l h =
+    let e : at + (at + length t - at) ≡ at + length t = omega arith in
+    rw (put_is t at l h, append_assoc (take at l) t (drop (at + length t) l), drop-drop (at + length t - at) at l, e)

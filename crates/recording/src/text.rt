@@ -1,7 +1,7 @@
 // What a program over a recording writes: each function stores its text from a place on in the bytes
 // lent, and gives the place after it.
 ghost use Rattle.std.specs.Prelude.{◌≡◌, ◌+◌, ◌*◌, ◌≤◌, length};
-ghost use Rattle.recording.specs.Text.{written_of, put, decimal_of, ended_of, line_of, lines_of, field_of, flag_of, closing_of, refused_of};
+ghost use Rattle.recording.specs.Text.{written_of, put, decimal_of, ended_of, line_of, lines_of, field_of, closing_of, refused_of};
 
 // What the closing lines tell: dibits delivered, those of them under lock, whether the carrier is
 // locked now, and samples that were overloaded.
@@ -14,16 +14,14 @@ pub struct Totals {
 }
 
 // A text as it stands.
+#[tactic(auto, using(crate::specs::TextLaws::put_part))]
 fn copied(text: &[u8], out: &mut [u8], at: usize) -> usize
     requires { at + length text.now ≤ length out.old }
     ensures { written_of result out.new ≡ put text.now (written_of at out.old) }
 {
-    let mut i = 0;
-    while i < text.len() {
-        out[at + i] = text[i];
-        i += 1;
-    }
-    at + text.len()
+    let end = at + text.len();
+    out[at..end].copy_from_slice(text);
+    end
 }
 
 // A number in decimal.
@@ -41,7 +39,7 @@ fn ended(n: u64, end: u8, out: &mut [u8], at: usize) -> usize
     requires { at + length (ended_of n end) ≤ length out.old }
     ensures { written_of result out.new ≡ put (ended_of n end) (written_of at out.old) }
 {
-    let after = decimal(n, &mut *out, at);
+    let after = decimal(n, out, at);
     out[after] = end;
     after + 1
 }
@@ -63,31 +61,29 @@ pub fn line(value: u8, first: u8, second: u8, out: &mut [u8], at: usize) -> usiz
     ensures near { result ≤ at + 12 }
     ensures kept { length out.new ≡ length out.old }
 {
-    let a = byte(value, b' ', &mut *out, at);
-    let b = byte(first, b' ', &mut *out, a);
+    let a = byte(value, b' ', out, at);
+    let b = byte(first, b' ', out, a);
     byte(second, b'\n', out, b)
 }
 
 // The lines of the first n dibits, each with two reliabilities.
 pub fn lines(dibits: &[u8], reliabilities: &[u8], n: usize, out: &mut [u8], at: usize) -> usize
-    requires n_in_bounds { n ≤ length dibits.now }
-    requires n_in_bounds_2 { 2 * n ≤ length reliabilities.now }
-    requires n_in_bounds_3 { at + 12 * n ≤ length out.old }
+    requires dibits_there { n ≤ length dibits.now }
+    requires reliabilities_there { 2 * n ≤ length reliabilities.now }
+    requires room { at + 12 * n ≤ length out.old }
     ensures same { written_of result out.new ≡ put (lines_of dibits.now reliabilities.now n) (written_of at out.old) }
     ensures near { result ≤ at + 12 * n }
     ensures kept { length out.new ≡ length out.old }
 {
     let mut after = at;
-    let mut i = 0;
-    while i < n {
+    for i in 0..n {
         after = line(
             dibits[i],
             reliabilities[2 * i],
             reliabilities[2 * i + 1],
-            &mut *out,
+            out,
             after,
         );
-        i += 1;
     }
     after
 }
@@ -99,14 +95,8 @@ fn field(word: &[u8], n: u64, out: &mut [u8], at: usize) -> usize
     ensures near { result ≤ at + (length word.now + 21) }
     ensures kept { length out.new ≡ length out.old }
 {
-    let after = copied(word, &mut *out, at);
+    let after = copied(word, out, at);
     ended(n, b'\n', out, after)
-}
-
-fn flag(b: bool) -> u64
-    ensures { result ≡ flag_of b }
-{
-    if b { 1 } else { 0 }
 }
 
 // The four closing lines.
@@ -116,9 +106,9 @@ pub fn closing(t: Totals, out: &mut [u8], at: usize) -> usize
     ensures near { result ≤ at + 120 }
     ensures kept { length out.new ≡ length out.old }
 {
-    let a = field(b"symbols ", t.symbols, &mut *out, at);
-    let b = field(b"locked ", t.locked, &mut *out, a);
-    let c = field(b"lock ", flag(t.lock), &mut *out, b);
+    let a = field(b"symbols ", t.symbols, out, at);
+    let b = field(b"locked ", t.locked, out, a);
+    let c = field(b"lock ", u64::from(t.lock), out, b);
     field(b"overload ", t.overload, out, c)
 }
 

@@ -9,13 +9,21 @@ use numbers::bits::{float32, pattern, pattern32};
 
 const OUT: i32 = 1;
 
+// The next record of N bytes from standard input, if a whole one is left. A program runs
+// `for r in std::iter::from_fn(record::<N>).take(1_000_000)`, which ends with the input or after a million.
+pub fn record<const N: usize>() -> Option<[u8; N]> {
+    let mut bytes = [0; N];
+    let got = io::read_full(0, &mut bytes);
+    (got == N).then_some(bytes)
+}
+
 // The digest h with one answer more. Each step can be undone, so a single wrong answer always shows.
 pub fn mixed(h: u64, x: u64) -> u64 {
     let a = h ^ x;
-    let b = std::num::wrapping_add_u64(a, a << 21);
+    let b = a.wrapping_add(a << 21);
     let c = b ^ (b >> 24);
-    let d = std::num::wrapping_add_u64(c, c << 3);
-    let e = std::num::wrapping_add_u64(d, d << 8);
+    let d = c.wrapping_add(c << 3);
+    let e = d.wrapping_add(d << 8);
     e ^ (e >> 14)
 }
 
@@ -29,33 +37,20 @@ pub fn mixed_float(h: u64, x: f64) -> u64 {
 }
 
 pub fn mixed_float32(h: u64, x: f32) -> u64 {
-    let b = pattern32(x);
-    mixed(h, b as u64)
+    mixed(h, u64::from(pattern32(x)))
 }
 
 pub fn mixed_flag(h: u64, x: bool) -> u64 {
-    mixed(h, if x { 1 } else { 0 })
-}
-
-fn mixed_byte(h: u64, x: u8) -> u64 {
-    mixed(h, x as u64)
-}
-
-fn wide(x: u8) -> u64 {
-    x as u64
+    mixed(h, u64::from(x))
 }
 
 // The little-endian word of eight bytes from a place on.
 pub fn word(s: &[u8], at: usize) -> u64
     requires { at + 8 ≤ length s.now }
 {
-    let mut n: u64 = 0;
-    let mut i = 8;
-    while i > 0 {
-        i -= 1;
-        n = (n << 8) ^ wide(s[at + i]);
-    }
-    n
+    let mut bytes = [0; 8];
+    bytes.copy_from_slice(&s[at..at + 8]);
+    u64::from_le_bytes(bytes)
 }
 
 // A line of hexadecimal digits, as many as width says.
@@ -66,23 +61,12 @@ pub fn print_line(n: u64, width: usize) {
 
 // The digest with all numbers of a plane.
 pub fn mixed_plane(h: u64, plane: &[f32]) -> u64 {
-    let mut d = h;
-    let mut i = 0;
-    while i < plane.len() {
-        d = mixed_float32(d, plane[i]);
-        i += 1;
-    }
-    d
+    plane.iter().fold(h, |d, x| mixed_float32(d, *x))
 }
 
+// The digest with all bytes of a list.
 pub fn mixed_bytes(h: u64, s: &[u8]) -> u64 {
-    let mut d = h;
-    let mut i = 0;
-    while i < s.len() {
-        d = mixed_byte(d, s[i]);
-        i += 1;
-    }
-    d
+    s.iter().fold(h, |d, x| mixed(d, u64::from(*x)))
 }
 
 // The seed of the next number.
@@ -102,35 +86,25 @@ pub fn any(s: u64) -> f32 {
 
 // A part of a sample, of a kind: moderate, large, huge, any pattern.
 pub fn sample_part(s: u64, kind: u64) -> f32 {
-    if kind == 0 {
-        unit(s)
-    } else if kind == 1 {
-        unit(s) * 1000000.0
-    } else if kind == 2 {
-        unit(s) * 1.0e30
-    } else {
-        any(s)
+    match kind {
+        0 => unit(s),
+        1 => unit(s) * 1000000.0,
+        2 => unit(s) * 1.0e30,
+        _ => any(s),
     }
 }
 
 // NaN, infinities, the largest, the smallest, zeros.
 fn special(k: u64) -> f32 {
-    if k == 0 {
-        float32(0x7fc0_0000)
-    } else if k == 1 {
-        float32(0x7f80_0000)
-    } else if k == 2 {
-        float32(0xff80_0000)
-    } else if k == 3 {
-        float32(0x7f7f_ffff)
-    } else if k == 4 {
-        float32(0xff7f_ffff)
-    } else if k == 5 {
-        float32(1)
-    } else if k == 6 {
-        0.0
-    } else {
-        float32(0x8000_0000)
+    match k {
+        0 => float32(0x7fc0_0000),
+        1 => float32(0x7f80_0000),
+        2 => float32(0xff80_0000),
+        3 => float32(0x7f7f_ffff),
+        4 => float32(0xff7f_ffff),
+        5 => float32(1),
+        6 => 0.0,
+        _ => float32(0x8000_0000),
     }
 }
 
@@ -142,24 +116,15 @@ fn quarters(s: u64) -> f32 {
 // One number of a state, of a kind: what stood there; moderate; now and then a special one; any
 // pattern; quarters; infinity; 3.5; of either sign.
 pub fn part(kind: u64, s: u64, before: f32) -> f32 {
-    if kind == 0 {
-        before
-    } else if kind == 1 {
-        unit(s) * 2.0
-    } else if kind == 2 && s % 8 == 0 {
-        special(s / 8 % 8)
-    } else if kind == 2 {
-        unit(s) * 2.0
-    } else if kind == 3 {
-        any(s)
-    } else if kind == 4 {
-        quarters(s)
-    } else if kind == 5 {
-        special(1)
-    } else if kind == 6 {
-        3.5
-    } else {
-        unit(s) * 100.0
+    match kind {
+        0 => before,
+        2 if s % 8 == 0 => special(s / 8 % 8),
+        1 | 2 => unit(s) * 2.0,
+        3 => any(s),
+        4 => quarters(s),
+        5 => special(1),
+        6 => 3.5,
+        _ => unit(s) * 100.0,
     }
 }
 
@@ -168,11 +133,9 @@ pub fn fill(s: u64, kind: u64, plane: &mut [f32]) -> u64
     ensures { length plane.new ≡ length plane.old }
 {
     let mut seed = s;
-    let mut i = 0;
-    while i < plane.len() {
+    for x in plane {
         seed = next(seed);
-        plane[i] = part(kind, seed, plane[i]);
-        i += 1;
+        *x = part(kind, seed, *x);
     }
     seed
 }
@@ -180,10 +143,8 @@ pub fn fill(s: u64, kind: u64, plane: &mut [f32]) -> u64
 // Every float another one, so that a stray write shows.
 pub fn mark(floats: &mut [f32]) {
     let mut pattern: u32 = 0x4000_0000;
-    let mut i = 0;
-    while i < floats.len() {
-        floats[i] = float32(pattern);
-        pattern = std::num::wrapping_add_u32(pattern, 1);
-        i += 1;
+    for x in floats {
+        *x = float32(pattern);
+        pattern = pattern.wrapping_add(1);
     }
 }

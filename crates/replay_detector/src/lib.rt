@@ -11,7 +11,9 @@ use answers::{PARENTS, STEPS};
 use channels::STATES;
 use complex::{Complex32, Observation};
 use numbers::bits::float32;
-use replay::{mixed, mixed_bytes, mixed_flag, mixed_float32, mixed_plane, next, part, word};
+use replay::{
+    mixed, mixed_bytes, mixed_flag, mixed_float32, mixed_plane, next, part, print_line, word,
+};
 use sequence::step::{Detected, DetectorPlace};
 
 // A run of steps: what is asked, its state's seed and start, and how many steps follow.
@@ -39,6 +41,22 @@ pub fn input(a: u64) -> Complex32 {
     Complex32 {
         real: float32((a % 0x1_0000_0000) as u32),
         imaginary: float32((a / 0x1_0000_0000) as u32),
+    }
+}
+
+// A step from standard input: its input, and whether it is reliable; zeros where the input has ended.
+#[derive(Clone, Copy)]
+pub struct Step {
+    pub input: Complex32,
+    pub reliable: bool,
+}
+
+pub fn read_step() -> Step {
+    let mut step = [0u8; 16];
+    io::read_full(0, &mut step);
+    Step {
+        input: input(word(&step, 0)),
+        reliable: word(&step, 8) == 1,
     }
 }
 
@@ -271,4 +289,23 @@ pub fn mixed_steps(
     records: Records,
 ) -> u64 {
     mixed_records(mixed_bytes(mixed_plane(h, costs), parents), records)
+}
+
+// A line of a step's answer, where 1 is asked, or of the digest of all that it left, its tracker's planes
+// in their order.
+pub fn tell(
+    asked: u64,
+    d: Detected,
+    planes: &[&[f32]],
+    costs: &[f32; STATES],
+    parents: &[u8; PARENTS],
+    records: Records,
+) {
+    if asked == 1 {
+        print_line(shown(d.answer), 16);
+        return;
+    }
+    let place = mixed_place(told(d), d.place);
+    let tracker = planes.iter().fold(place, |h, p| mixed_plane(h, p));
+    print_line(mixed_steps(tracker, costs, parents, records), 16);
 }

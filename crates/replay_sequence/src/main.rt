@@ -8,37 +8,15 @@ ghost use Rattle.lms_detector.specs.Ranges.{Ranged};
 use answers::PARENTS;
 use answers::soft::Records;
 use channels::{CHANNELS, STATES};
-use replay::{fill, mixed_plane, print_line, word};
+use replay::{fill, record};
 use replay_detector::{
-    Request, decoded, fill_parents, input, made_place, made_records, mixed_place, mixed_steps,
-    shown, started, stored, told,
+    Request, decoded, fill_parents, made_place, made_records, read_step, started, stored, tell,
 };
-use sequence::step::{Detected, DetectorPlace};
-
-fn tell(
-    asked: u64,
-    d: Detected,
-    records: Records,
-    real: &[f32; CHANNELS],
-    imaginary: &[f32; CHANNELS],
-    costs: &[f32; STATES],
-    parents: &[u8; PARENTS],
-) {
-    let answer = d.answer;
-    let place = d.place;
-    if asked == 1 {
-        print_line(shown(answer), 16);
-        return;
-    }
-    let h = mixed_place(told(d), place);
-    let planes = mixed_plane(mixed_plane(h, real), imaginary);
-    print_line(mixed_steps(planes, costs, parents, records), 16);
-}
+use sequence::step::DetectorPlace;
 
 // Steps, as many as the run says or as there are.
 fn run(
-    asked: u64,
-    count: u64,
+    q: Request,
     place: DetectorPlace,
     held: Records,
     real: &mut [f32; CHANNELS],
@@ -50,25 +28,21 @@ fn run(
 {
     let mut p = place;
     let mut records = held;
-    let mut left = count;
-    while left > 0 {
-        let mut step = [0u8; 16];
-        io::read_full(0, &mut step);
-        let write = p.write;
+    for _ in 0..q.count {
+        let step = read_step();
         let d = lms_detector::step(
             p,
-            input(word(&step, 0)),
-            word(&step, 8) == 1,
-            answers::soft::oldest(records, write),
-            &mut *real,
-            &mut *imaginary,
-            &mut *costs,
-            &mut *parents,
+            step.input,
+            step.reliable,
+            answers::soft::oldest(records, p.write),
+            real,
+            imaginary,
+            costs,
+            parents,
         );
-        records = stored(records, write, d);
-        tell(asked, d, records, real, imaginary, costs, parents);
+        records = stored(records, p.write, d);
+        tell(q.asked, d, &[real, imaginary], costs, parents, records);
         p = d.place;
-        left -= 1;
     }
 }
 
@@ -78,19 +52,16 @@ fn answer(q: Request) {
     let mut imaginary: [f32; CHANNELS] = [0.0; CHANNELS];
     let mut costs: [f32; STATES] = [0.0; STATES];
     let mut parents: [u8; PARENTS] = [0; PARENTS];
-    let a = fill(q.seed, start.floats, &mut real);
-    let b = fill(a, start.floats, &mut imaginary);
-    let c = fill(b, start.costs, &mut costs);
-    let d = fill_parents(c, start.floats, &mut parents);
-    let records = made_records(d, start.floats);
+    let seed = fill(q.seed, start.floats, &mut real);
+    let seed = fill(seed, start.floats, &mut imaginary);
+    let seed = fill(seed, start.costs, &mut costs);
+    let seed = fill_parents(seed, start.floats, &mut parents);
+    let records = made_records(seed, start.floats);
     let place = made_place(start, records.seed);
-    let held = records.records;
-    let here = place.place;
     run(
-        q.asked,
-        q.count,
-        here,
-        held,
+        q,
+        place.place,
+        records.records,
         &mut real,
         &mut imaginary,
         &mut costs,
@@ -98,24 +69,8 @@ fn answer(q: Request) {
     );
 }
 
-// Whether a run was read, and answered.
-fn answered() -> bool {
-    let mut head = [0u8; 32];
-    let got = io::read_full(0, &mut head);
-    if got < 32 {
-        return false;
-    }
-    answer(decoded(&head));
-    true
-}
-
 fn main() {
-    let mut left: u64 = 1000000;
-    while left > 0 {
-        if answered() {
-            left -= 1;
-        } else {
-            left = 0;
-        }
+    for head in std::iter::from_fn(record::<32>).take(1_000_000) {
+        answer(decoded(&head));
     }
 }

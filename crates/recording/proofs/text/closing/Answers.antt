@@ -5,8 +5,7 @@ use Rattle.recording.proofs.text.closing.Goals as goal
 
 pub returns : goal.returns
 returns c =
-    let flag_says = c.flag.ensures in
     let field_says = c.field-a.ensures in
     let field2_says = c.field-b.ensures in
     let field3_says = c.field-c.ensures in
-    record { same = closing_put _ _ _ _ _ _ _ flag_says field_says.same field2_says.same field3_says.same c.field.ensures.same; near = search rules; kept = search rules }
+    record { same = closing_put _ _ _ _ _ _ _ (search rules) field_says.same field2_says.same field3_says.same c.field.ensures.same; near = search rules; kept = search rules }
