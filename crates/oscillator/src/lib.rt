@@ -60,7 +60,7 @@ pub fn is_admitted(o: Oscillator) -> bool
 pub fn is_conjugated(profile: i32) -> bool
     ensures { result ≡ conjugated_of profile }
 {
-    if profile == 1 { true } else { false }
+    profile == 1
 }
 
 // The oscillator divided by its size, its count of turns at 0.
@@ -71,9 +71,8 @@ fn renormalized(o: Oscillator) -> Oscillator
     Oscillator {
         real: o.real / size,
         imaginary: o.imaginary / size,
-        step_real: o.step_real,
-        step_imaginary: o.step_imaginary,
         renormalize: 0,
+        ..o
     }
 }
 
@@ -85,14 +84,14 @@ pub fn turned(o: Oscillator) -> Oscillator
     let next = Oscillator {
         real: o.real * o.step_real - o.imaginary * o.step_imaginary,
         imaginary: o.real * o.step_imaginary + o.imaginary * o.step_real,
-        step_real: o.step_real,
-        step_imaginary: o.step_imaginary,
         renormalize: o.renormalize + 1,
+        ..o
     };
     if next.renormalize == PERIOD {
-        return renormalized(next);
+        renormalized(next)
+    } else {
+        next
     }
-    next
 }
 
 // The imaginary part, negated where the sample is conjugated.
@@ -130,8 +129,7 @@ pub fn mix(o: &mut Oscillator, sample: Complex32, conjugated: bool) -> Complex32
     ensures { ◌≡◌ {A = Step} (record { oscillator = o.new; value = result }) (stepped_of o.old sample conjugated) }
 {
     let before = *o;
-    let after = turned(before);
-    *o = after;
+    *o = turned(before);
     mixed(before, sample, conjugated)
 }
 

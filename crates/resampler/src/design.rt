@@ -46,13 +46,11 @@ fn write_raw(omega: f64, arm: usize, table: &mut [f32]) -> f64
 {
     let last = 32 * arm;
     let mut sum = 0.0;
-    let mut i = 0;
-    while i < last {
+    for i in 0..last {
         let tap = raw_tap(omega, last, i);
         let place = tap_place(arm, i);
         table[place] = tap;
         sum = sum + widen(tap);
-        i += 1;
     }
     sum + widen(raw_tap(omega, last, last))
 }
@@ -62,10 +60,8 @@ fn divide(sum: f32, count: usize, table: &mut [f32])
     requires { count ≤ length table.old }
     ensures { table.new ≡ divided_of sum count table.old }
 {
-    let mut i = 0;
-    while i < count {
+    for i in 0..count {
         table[i] = table[i] / sum * 32.0;
-        i += 1;
     }
 }
 

@@ -116,12 +116,10 @@ fn summed(
 {
     let mut real = s.real;
     let mut imaginary = s.imaginary;
-    let mut i = 0;
-    while i < count {
+    for i in 0..count {
         let tap = table[base + i];
         real = real + reals[from + i] * tap;
         imaginary = imaginary + imaginaries[from + i] * tap;
-        i += 1;
     }
     Complex32 { real, imaginary }
 }
@@ -164,15 +162,23 @@ fn emitted(d: Delivery, step: f64, value: Complex32) -> Delivery
     requires { d.count < 2 }
     ensures { result ≡ emitted_of d step value }
 {
-    let mut e = d;
-    e.count = d.count + 1;
-    e.next = d.next + step;
+    let count = d.count + 1;
+    let next = d.next + step;
     if d.count == 0 {
-        e.first = value;
-        return e;
+        Delivery {
+            count,
+            first: value,
+            next,
+            ..d
+        }
+    } else {
+        Delivery {
+            count,
+            second: value,
+            next,
+            ..d
+        }
     }
-    e.second = value;
-    e
 }
 
 // Outputs until one needs a value that is not yet in: its position is where the next pass goes on.
@@ -194,19 +200,14 @@ fn delivered(
         second: zero,
         next: r.next,
     };
-    let next = loop {
-        let x = d.next;
-        let p = placed(x);
+    loop {
+        let p = placed(d.next);
         if is_waiting(r, p) {
-            break x;
+            return d;
         }
         let v = filtered(r, p.phase, table, reals, imaginaries);
-        let e = emitted(d, r.step, v);
-        d = e;
-    };
-    let mut e = d;
-    e.next = next;
-    e
+        d = emitted(d, r.step, v);
+    }
 }
 
 // Whether the arm length, its half and the ring's place are in range.
@@ -255,13 +256,13 @@ fn pushed(
     ensures real { reals.new ≡ slice_set reals.old r.write value.real }
     ensures imaginary { imaginaries.new ≡ slice_set imaginaries.old r.write value.imaginary }
 {
-    let write = r.write;
-    reals[write] = value.real;
-    imaginaries[write] = value.imaginary;
-    let mut q = r;
-    q.index = r.index + 1;
-    q.write = next_place(write, r.arm + 16);
-    q
+    reals[r.write] = value.real;
+    imaginaries[r.write] = value.imaginary;
+    Resampler {
+        index: r.index + 1,
+        write: next_place(r.write, r.arm + 16),
+        ..r
+    }
 }
 
 // A value in, and the outputs that it makes due.
@@ -281,14 +282,10 @@ pub fn resampled(
 {
     let q = pushed(r, value, &mut *reals, &mut *imaginaries);
     let d = delivered(q, table, reals, imaginaries);
-    let mut s = q;
-    s.next = d.next;
-    let first = d.first;
-    let second = d.second;
     Passed {
-        resampler: s,
+        resampler: Resampler { next: d.next, ..q },
         count: d.count,
-        first,
-        second,
+        first: d.first,
+        second: d.second,
     }
 }

@@ -44,10 +44,8 @@ fn overloads(samples: &[f32]) -> u32
 {
     let n = samples.len() / 2;
     let mut count = 0;
-    let mut i = 0;
-    while i < n {
+    for i in 0..n {
         count = tally(count, samples[2 * i], samples[2 * i + 1]);
-        i += 1;
     }
     count
 }
@@ -63,10 +61,8 @@ fn all_finite(samples: &[f32]) -> bool
 {
     let n = samples.len() / 2;
     let mut ok = true;
-    let mut i = 0;
-    while i < n {
+    for i in 0..n {
         ok = still_finite(ok, samples[2 * i], samples[2 * i + 1]);
-        i += 1;
     }
     ok
 }
@@ -82,10 +78,8 @@ fn all_inside(samples: &[f32]) -> bool
     ensures { result ≡ all_inside samples.now }
 {
     let mut ok = true;
-    let mut i = 0;
-    while i < samples.len() {
-        ok = ok & is_inside(samples[i]);
-        i += 1;
+    for &part in samples {
+        ok = ok & is_inside(part);
     }
     ok
 }

@@ -105,9 +105,8 @@ pub fn push(
     requires { place.head < 1024 }
     ensures { Leaves place result real imaginary (λ view after. after ≡ pushed_of view symbol) }
 {
-    let previous = place.previous;
     let head = place.head;
-    let point = paired(previous, symbol);
+    let point = paired(place.previous, symbol);
     real[head] = point.real;
     imaginary[head] = point.imaginary;
     ViewPlace {
@@ -167,15 +166,13 @@ fn write_points(
         ◌≡◌ {A = WrittenPoints} (record { errors = result; output = after }) (written_of amplitude points before))) }
 {
     let mut sum = 0.0f64;
-    let mut i = 0;
-    while i < count {
+    for i in 0..count {
         let at = (start + i) % POINTS;
         let x = widen(real[at]) / amplitude;
         let y = widen(imaginary[at]) / amplitude;
         sum = sum + (missed(x) + missed(y));
         output[i * 2] = narrow(x);
         output[i * 2 + 1] = narrow(y);
-        i += 1;
     }
     sum
 }

@@ -4,7 +4,7 @@
 // range. Then no part is a NaN, and a quotient is narrowed by rounding its bits in place.
 ghost use Rattle.std.specs.Prelude.{◌≡◌, ◌+◌, ◌≤◌, min, true, not, T, is_nan};
 ghost use Rattle.std.specs.Float.{binary32, binary64};
-ghost use Rattle.std.specs.Float.Ieee.{div, fits};
+ghost use Rattle.std.specs.Float.Ieee.{div};
 ghost use Rattle.laws.specs.Turns.{turns};
 ghost use Rattle.numbers.specs.Numbers.{abs_of, convert};
 ghost use Rattle.signal.specs.Plain.{is_plain, Usual, PlainAmplitude, common_of, error_from, run_of};
@@ -34,8 +34,7 @@ fn no_nan(x: f32) -> f32
 // Twice the bits of the size, less 1: the larger the size, the larger it is, and of a zero, where it
 // wraps, it is the largest.
 fn span(x: f32) -> u32
-    requires t { T (fits binary32 x) }
-    requires t_2 { T (not (is_nan x)) }
+    requires { T (not (is_nan x)) }
     ensures { result ≡ span_of x }
 {
     std::num::wrapping_sub_u32(f32::to_bits(x) % 0x8000_0000 * 2, 1)
@@ -84,10 +83,8 @@ pub fn power_run(
     ensures { result ≡ turns (run_of (power_step real.now imaginary.now) from 0) count before }
 {
     let mut power = before;
-    let mut i = 0;
-    while i < count {
+    for i in 0..count {
         power = with_point(power, real[from + i], imaginary[from + i]);
-        i += 1;
     }
     power
 }
@@ -136,8 +133,8 @@ pub fn quotient(x: f32, amplitude: f64) -> f64
 
 // The squared error of a point whose parts are given.
 pub fn error(x: f64, y: f64) -> f64
-    requires usual { Usual x }
-    requires usual_2 { Usual y }
+    requires usual_x { Usual x }
+    requires usual_y { Usual y }
     ensures { result ≡ error_from x y }
 {
     let across = size(x) - IDEAL;

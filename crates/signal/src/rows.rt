@@ -25,8 +25,8 @@ const QUOTIENTS: usize = 64;
 fn write_point(x: f64, y: f64, at: usize, output: &mut [f32], before: f64) -> f64
     requires at_bound { at < 1024 }
     requires at_in_bounds { at * 2 + 2 ≤ length output.old }
-    requires usual { Usual x }
-    requires usual_2 { Usual y }
+    requires usual_x { Usual x }
+    requires usual_y { Usual y }
     ensures errors { result ≡ add binary64 before (error_from x y) }
     ensures written { output.new ≡ point_put x y at output.old }
 {
@@ -45,19 +45,16 @@ fn divide_row(
     row: &mut [f64; QUOTIENTS],
 )
     requires count_bound { count ≤ 32 }
-    requires count_bound_2 { from + count ≤ 1024 }
-    requires row_len { length row.old ≡ 64 }
+    requires end_bound { from + count ≤ 1024 }
     requires plain_run { PlainRun real.now imaginary.now from count }
     requires plain_amplitude { PlainAmplitude amplitude }
     ensures { row.new ≡ turns (divide_turn real.now imaginary.now amplitude from) count
         row.old }
 {
-    let mut j = 0;
-    while j < count {
+    for j in 0..count {
         let at = from + j;
         row[j] = quotient(real[at], amplitude);
         row[ROW + j] = quotient(imaginary[at], amplitude);
-        j += 1;
     }
 }
 
@@ -71,17 +68,15 @@ fn write_row(
     before: f64,
 ) -> f64
     requires count_bound { count ≤ 32 }
-    requires count_bound_2 { done + count ≤ 1024 }
+    requires end_bound { done + count ≤ 1024 }
     requires count_in_bounds { (done + count) * 2 ≤ length output.old }
     requires usual_row { UsualRow row.now count }
     ensures errors { result ≡ turns (error_turn row.now) count before }
     ensures written { output.new ≡ turns (point_turn row.now done) count output.old }
 {
     let mut sum = before;
-    let mut j = 0;
-    while j < count {
+    for j in 0..count {
         sum = write_point(row[j], row[ROW + j], done + j, &mut *output, sum);
-        j += 1;
     }
     sum
 }
@@ -100,7 +95,6 @@ fn exchange_row(
     requires next_bound { next + 32 ≤ 1024 }
     requires done_bound { done + 32 ≤ 1024 }
     requires done_in_bounds { (done + 32) * 2 ≤ length output.old }
-    requires row_len { length row.old ≡ 64 }
     requires usual_row { UsualRow row.old 32 }
     requires plain_run { PlainRun real.now imaginary.now next 32 }
     requires plain_amplitude { PlainAmplitude amplitude }
@@ -110,8 +104,7 @@ fn exchange_row(
         row.old }
 {
     let mut sum = before;
-    let mut j = 0;
-    while j < ROW {
+    for j in 0..ROW {
         let at = next + j;
         let up = ROW + j;
         let x = row[j];
@@ -119,7 +112,6 @@ fn exchange_row(
         row[j] = quotient(real[at], amplitude);
         row[up] = quotient(imaginary[at], amplitude);
         sum = write_point(x, y, done + j, &mut *output, sum);
-        j += 1;
     }
     sum
 }
@@ -136,8 +128,8 @@ pub fn write_run(
     output: &mut [f32],
     before: f64,
 ) -> f64
-    requires count_bound { from + count ≤ 1024 }
-    requires count_bound_2 { done + count ≤ 1024 }
+    requires from_bound { from + count ≤ 1024 }
+    requires done_bound { done + count ≤ 1024 }
     requires count_in_bounds { (done + count) * 2 ≤ length output.old }
     requires plain_run { PlainRun real.now imaginary.now from count }
     requires plain_amplitude { PlainAmplitude amplitude }

@@ -1,9 +1,10 @@
 -- `is_conjugated` meets its contract: profile 1 is conjugated, and no other number is.
+use Rattle.std.proofs.Common.{◌∙◌, ⊎_elim, of_z, w32}
+use Rattle.std.proofs.lemmas.Bool.Decides.{eqb_tells}
 use Rattle.oscillator.specs.Laws.{profile_one, profile_other}
 use Rattle.oscillator.proofs.is_conjugated.Goals as goal
 
-pub returns-then-profile-eq1 : goal.returns-then-profile-eq1
-returns-then-profile-eq1 c = profile_one _ c.ranges.profile c.if-profile-eq1.true
-
-pub returns-else-profile-eq1 : goal.returns-else-profile-eq1
-returns-else-profile-eq1 c = profile_other c.args.profile c.if-profile-eq1.false
+pub returns : goal.returns
+returns c =
+    let p = c.args.profile in
+    ⊎_elim (λ e. e.0 ∙ profile_one p c.ranges.profile e.1) (λ e. e.0 ∙ profile_other p e.1) (eqb_tells (of_z w32 p) 1)

@@ -5,5 +5,5 @@ use Rattle.oscillator.proofs.turned.Goals as goal
 pub returns-then-next-eq-PERIOD : goal.returns-then-next-eq-PERIOD
 returns-then-next-eq-PERIOD c = turned_last _ _ c.if-next-eq-PERIOD.true c.renormalized.ensures
 
-pub returns : goal.returns
-returns c = turned_other _ c.if-next-eq-PERIOD.false
+pub returns-else-next-eq-PERIOD : goal.returns-else-next-eq-PERIOD
+returns-else-next-eq-PERIOD c = turned_other _ c.if-next-eq-PERIOD.false

@@ -1,5 +1,4 @@
 -- `all_finite` meets its contract: each turn looks at both parts of a sample.
-use Prim.Native.Nat.{◌-◌, ◌≤◌}
 use mathlib.Core.Path.{◌≡◌}
 use mathlib.Core.Bool.{true}
 use Rattle.laws.specs.Turns.{turns}
@@ -7,7 +6,4 @@ use Rattle.samples.specs.Samples.{finite_turn}
 use Rattle.samples.proofs.all_finite.Given as goal
 
 abbrev pub invariant-loop-i : goal.invariant-loop-i
-invariant-loop-i l = (l.i ≤ l.n) × (l.ok ≡ turns (finite_turn l.samples) l.i true)
-
-abbrev pub decreases-loop-i : goal.decreases-loop-i
-decreases-loop-i l = l.n - l.i
+invariant-loop-i l = l.ok ≡ turns (finite_turn l.samples) l.i true

@@ -1,11 +1,8 @@
 -- `write_raw` meets its contract: each turn writes a tap at its place and adds it, and the last tap is added alone.
-use Rattle.std.proofs.Common.{◌≡◌, ◌-◌, ◌≤◌, length}
+use Rattle.std.proofs.Common.{◌≡◌}
 use Rattle.resampler.specs.Loops.{Raw, both_turn, start_raw}
 use Rattle.laws.specs.Turns.{turns}
 use Rattle.resampler.proofs.design.write_raw.Given as goal
 
 abbrev pub invariant-loop-i : goal.invariant-loop-i
-invariant-loop-i l = (l.i ≤ l.last) × (length l.table ≡ length l.initial.table) × (◌≡◌ {A = Raw} (record { sum = l.sum; table = l.table }) (turns (both_turn l.omega l.arm) l.i (start_raw l.initial.table)))
-
-abbrev pub decreases-loop-i : goal.decreases-loop-i
-decreases-loop-i l = l.last - l.i
+invariant-loop-i l = ◌≡◌ {A = Raw} (record { sum = l.sum; table = l.table }) (turns (both_turn l.omega l.arm) l.i (start_raw l.initial.table))

@@ -17,8 +17,8 @@ pub filtered-v-requires : goal.filtered-v-requires
 filtered-v-requires c =
     record { dimensioned = c.requires.dimensioned; phase_bound = c.placed-p.ensures.near.phase_in; arm_in_bounds = c.requires.arm_in_bounds }
 
-pub emitted-e-requires : goal.emitted-e-requires
-emitted-e-requires c =
+pub emitted-d-requires : goal.emitted-d-requires
+emitted-d-requires c =
     let loop = c.loop-r in
     let placed = c.placed-p in
     let due = sym c.is_waiting.ensures ∙ c.if-is_waiting.false in
@@ -32,7 +32,7 @@ loop-r-smaller c =
     let filtered = c.filtered-v in
     let few = stands_few c.args.r c.requires.passing c.args.table.now c.args.reals.now c.args.imaginaries.now loop.d loop.invariant placed.result placed.ensures.same due in
     let more = one_output c.args.r c.requires.passing c.args.table.now c.args.reals.now c.args.imaginaries.now loop.d loop.invariant placed.result placed.ensures.same due
-    filtered.result c.emitted-e.result filtered.ensures c.emitted-e.ensures in
+    filtered.result c.emitted-d.result filtered.ensures c.emitted-d.ensures in
     omega arith
 
 pub loop-r-preserved : goal.loop-r-preserved
@@ -42,10 +42,10 @@ loop-r-preserved c =
     let due = sym c.is_waiting.ensures ∙ c.if-is_waiting.false in
     let filtered = c.filtered-v in
     stands_next c.args.r c.requires.passing c.args.table.now c.args.reals.now c.args.imaginaries.now loop.d loop.invariant placed.result placed.ensures.same due
-    filtered.result c.emitted-e.result filtered.ensures c.emitted-e.ensures
+    filtered.result c.emitted-d.result filtered.ensures c.emitted-d.ensures
 
-pub returns : goal.returns
-returns c =
+pub returns-then-is_waiting : goal.returns-then-is_waiting
+returns-then-is_waiting c =
     let loop = c.loop-r in
     let placed = c.placed-p in
     stands_last c.args.r c.requires.passing c.args.table.now c.args.reals.now c.args.imaginaries.now loop.d loop.invariant placed.result placed.ensures.same (sym c.is_waiting.ensures ∙ c.if-is_waiting.true)

@@ -7,6 +7,6 @@ pub returns-then-d-eq0 : goal.returns-then-d-eq0
 unfolding emitted_of
 returns-then-d-eq0 c = rw (eq-eqb _ _ c.if-d-eq0.true)
 
-pub returns : goal.returns
+pub returns-else-d-eq0 : goal.returns-else-d-eq0
 unfolding emitted_of
-returns c = rw (ne_eqb _ _ c.if-d-eq0.false)
+returns-else-d-eq0 c = rw (ne_eqb _ _ c.if-d-eq0.false)

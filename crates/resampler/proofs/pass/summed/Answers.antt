@@ -5,13 +5,11 @@ use Rattle.laws.specs.Turns.{turns_start, turns_step, turns_end}
 use Rattle.resampler.proofs.pass.summed.Goals as goal
 
 pub loop-i-init : goal.loop-i-init
-loop-i-init c = (search rules, turns_start _ _)
+loop-i-init c = turns_start _ _
 
 pub loop-i-preserved : goal.loop-i-preserved
-loop-i-preserved c =
-    let inv = c.loop-i.invariant in
-    (search rules, turns_step _ _ _ _ inv.1)
+loop-i-preserved c = turns_step _ _ _ _ c.loop-i.invariant
 
 pub returns : goal.returns
 unfolding run_of
-returns c = turns_end _ _ _ _ _ c.loop-i.invariant.1 (search rules) (search rules)
+returns c = turns_end _ _ _ _ _ c.loop-i.invariant (search rules) (search rules)

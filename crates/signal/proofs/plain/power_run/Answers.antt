@@ -4,12 +4,10 @@ use Rattle.laws.specs.Turns.{turns_start, turns_step, turns_end}
 use Rattle.signal.proofs.plain.power_run.Goals as goal
 
 pub loop-i-init : goal.loop-i-init
-loop-i-init c = (search rules, turns_start _ _)
+loop-i-init c = turns_start _ _
 
 pub loop-i-preserved : goal.loop-i-preserved
-loop-i-preserved c =
-    let so_far = c.loop-i.invariant in
-    (search rules, c.with_point-power.ensures ∙ turns_step _ _ _ _ so_far.1)
+loop-i-preserved c = c.with_point-power.ensures ∙ turns_step _ _ _ _ c.loop-i.invariant
 
 pub returns : goal.returns
-returns c = turns_end _ _ _ _ _ c.loop-i.invariant.1 (search rules) (search rules)
+returns c = turns_end _ _ _ _ _ c.loop-i.invariant (search rules) (search rules)

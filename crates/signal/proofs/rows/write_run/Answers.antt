@@ -6,7 +6,7 @@ use Rattle.signal.proofs.rows.write_run.Goals as goal
 
 pub divide_row-requires : goal.divide_row-requires
 divide_row-requires c =
-    let p = c.requires in record { count_bound = search rules; count_bound_2 = search rules; row_len = search rules; plain_run = plain_within _ _ _ _ 0 _ _ p.plain_run (omega arith) (omega arith); plain_amplitude = p.plain_amplitude }
+    let p = c.requires in record { count_bound = search rules; end_bound = search rules; plain_run = plain_within _ _ _ _ 0 _ _ p.plain_run (omega arith) (omega arith); plain_amplitude = p.plain_amplitude }
 
 pub loop-at-init : goal.loop-at-init
 loop-at-init c =
@@ -17,7 +17,7 @@ loop-at-init c =
 pub exchange_row-sum-requires : goal.exchange_row-sum-requires
 exchange_row-sum-requires c =
     let p = c.requires in let at = c.loop-at.at in
-    let d = c.loop-at.invariant.2 in record { next_bound = search rules; done_bound = search rules; done_in_bounds = search rules; row_len = d.size; usual_row = divided_usual _ _ _ _ _ _ (divided_fewer _ _ _ _ _ _ 32 _ d refl (omega arith)) (plain_within _ _ _ _ at _ _ p.plain_run refl (omega arith)) p.plain_amplitude; plain_run = plain_within _ _ _ _ (at + 32) _ _ p.plain_run (omega arith) (omega arith); plain_amplitude = p.plain_amplitude }
+    let d = c.loop-at.invariant.2 in record { next_bound = search rules; done_bound = search rules; done_in_bounds = search rules; usual_row = divided_usual _ _ _ _ _ _ (divided_fewer _ _ _ _ _ _ 32 _ d refl (omega arith)) (plain_within _ _ _ _ at _ _ p.plain_run refl (omega arith)) p.plain_amplitude; plain_run = plain_within _ _ _ _ (at + 32) _ _ p.plain_run (omega arith) (omega arith); plain_amplitude = p.plain_amplitude }
 
 pub loop-at-preserved : goal.loop-at-preserved
 loop-at-preserved c =
@@ -32,12 +32,12 @@ loop-at-preserved c =
 
 pub write_row-sum-requires : goal.write_row-sum-requires
 write_row-sum-requires c =
-    let p = c.requires in let l = c.loop-at in record { count_bound = search rules; count_bound_2 = search rules; count_in_bounds = search rules; usual_row = divided_usual _ _ _ _ _ _ l.invariant.2 (plain_within _ _ _ _ l.at _ _ p.plain_run refl l.invariant.0) p.plain_amplitude }
+    let p = c.requires in let l = c.loop-at in record { count_bound = search rules; end_bound = search rules; count_in_bounds = search rules; usual_row = divided_usual _ _ _ _ _ _ l.invariant.2 (plain_within _ _ _ _ l.at _ _ p.plain_run refl l.invariant.0) p.plain_amplitude }
 
 pub divide_row-requires-2 : goal.divide_row-requires-2
 divide_row-requires-2 c =
     let first = c.least_usize-first.result in
-    let p = c.requires in let l = c.loop-at in record { count_bound = search rules; count_bound_2 = search rules; row_len = l.invariant.2.size; plain_run = plain_within _ _ _ _ (l.at + first) _ _ p.plain_run refl (omega arith); plain_amplitude = p.plain_amplitude }
+    let p = c.requires in let l = c.loop-at in record { count_bound = search rules; end_bound = search rules; plain_run = plain_within _ _ _ _ (l.at + first) _ _ p.plain_run refl (omega arith); plain_amplitude = p.plain_amplitude }
 
 pub write_row-requires : goal.write_row-requires
 write_row-requires c =
@@ -45,7 +45,7 @@ write_row-requires c =
     let a = c.args in
     let p = c.requires in let l = c.loop-at in
     let at = l.at + first in
-    let d = divided a.real.now a.imaginary.now a.amplitude (a.from + at) (a.count - at) _ _ (omega arith) l.invariant.2.size c.divide_row-2.ensures in record { count_bound = search rules; count_bound_2 = search rules; count_in_bounds = search rules; usual_row = divided_usual _ _ _ _ _ _ d (plain_within _ _ _ _ at _ _ p.plain_run refl (omega arith)) p.plain_amplitude }
+    let d = divided a.real.now a.imaginary.now a.amplitude (a.from + at) (a.count - at) _ _ (omega arith) l.invariant.2.size c.divide_row-2.ensures in record { count_bound = search rules; end_bound = search rules; count_in_bounds = search rules; usual_row = divided_usual _ _ _ _ _ _ d (plain_within _ _ _ _ at _ _ p.plain_run refl (omega arith)) p.plain_amplitude }
 
 pub returns : goal.returns
 returns c =
