@@ -1,5 +1,5 @@
 -- What the proofs of the detector's functions apply, over plain variables. Assumes nothing.
-use Rattle.std.specs.Prelude.{◌≡◌, refl, ℕ, zero, suc, ◌+◌, ◌-◌, ◌/◌, ◌%◌, ◌≤◌, ◌<◌, Bool, true, false, List, eqb, ltb, Float}
+use Rattle.std.specs.Prelude.{◌≡◌, refl, ℕ, zero, suc, ◌+◌, ◌-◌, ◌/◌, ◌%◌, ◌≤◌, ◌<◌, Bool, true, false, List, eqb, ltb, Float, None, Some}
 use Rattle.std.proofs.Math.Path.{ap}
 use Rattle.std.proofs.Common.{ap₂, sym, ◌∙◌, arith, lt→ltb}
 use Rattle.std.proofs.Math.Bool.{◌&&◌}
@@ -7,7 +7,6 @@ use Rattle.std.proofs.Math.Dec.{ltb→lt, not_T}
 use Rattle.std.specs.Float.Ieee.Bits.{is_true, is_false}
 use Rattle.complex.specs.declared.Complex32.{Complex32}
 use Rattle.complex.specs.Complex.{conjugate_product_of, power_of, both_finite}
-use Rattle.complex.specs.declared.Observation.TheVariants.{Absent, Present}
 use Rattle.channels.specs.declared.channel.Taps.{Taps}
 use Rattle.answers.specs.declared.combine.Seen.{Seen}
 use Rattle.answers.specs.declared.soft.Soft.{Soft}
@@ -30,16 +29,16 @@ module _ (input : Complex32) (reliable : Bool) (t : Taps) (prior : ℕ) (power :
       ∙ ap (λ (z : Complex32). observed_with (is_usable reliable power && both_finite z) z power) (w ∙ ap (λ (z : Complex32). conjugate_product_of z t.main) r)
       ∙ ap (λ (z : Float). observed_with (is_usable reliable z && both_finite (weighted_of input t prior)) (weighted_of input t prior) z) p
 
-  pub observed_yes : (z : Complex32) → (a && b) ≡ true → z ≡ divided_of v power → ◌≡◌ {A = Seen} (record { combined = Present v; equalized = Present z }) (observed_of input reliable t prior)
+  pub observed_yes : (z : Complex32) → (a && b) ≡ true → z ≡ divided_of v power → ◌≡◌ {A = Seen} (record { combined = Some v; equalized = Some z }) (observed_of input reliable t prior)
   observed_yes z y d = go (a && b) y ∙ observed_is
     where
-      go : (c : Bool) → c ≡ true → ◌≡◌ {A = Seen} (record { combined = Present v; equalized = Present z }) (observed_with c v power)
+      go : (c : Bool) → c ≡ true → ◌≡◌ {A = Seen} (record { combined = Some v; equalized = Some z }) (observed_with c v power)
       go c e = unfold observed_with in rw (e, d)
 
-  pub observed_no : (a && b) ≡ false → ◌≡◌ {A = Seen} (record { combined = Absent; equalized = Absent }) (observed_of input reliable t prior)
+  pub observed_no : (a && b) ≡ false → ◌≡◌ {A = Seen} (record { combined = None; equalized = None }) (observed_of input reliable t prior)
   observed_no n = go (a && b) n ∙ observed_is
     where
-      go : (c : Bool) → c ≡ false → ◌≡◌ {A = Seen} (record { combined = Absent; equalized = Absent }) (observed_with c v power)
+      go : (c : Bool) → c ≡ false → ◌≡◌ {A = Seen} (record { combined = None; equalized = None }) (observed_with c v power)
       go c e = unfold observed_with in rw e
 
 -- ---- the answer

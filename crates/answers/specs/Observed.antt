@@ -1,5 +1,5 @@
 -- What the detector makes of an input: the observation left by the best survivor, and the step's soft record. Definitions only.
-use Rattle.std.specs.Prelude.{ℕ, ◌+◌, ◌/◌, ◌%◌, Bool, cond, ◌&&◌, List, get_or, Float}
+use Rattle.std.specs.Prelude.{ℕ, ◌+◌, ◌/◌, ◌%◌, Bool, cond, ◌&&◌, List, get_or, Float, Option, None, Some}
 use Rattle.std.specs.Bool.{beq}
 use Rattle.std.specs.Float.{binary32}
 use Rattle.std.specs.Float.Ieee.{of_bits, add, sub, mul, div, lt, to_unsigned}
@@ -8,8 +8,6 @@ use Rattle.numbers.specs.Numbers.{is_finite, abs_of, min_of, max_of, clamp_of}
 use Rattle.routines.specs.Hypotenuse.{hypotenuse_of}
 use Rattle.complex.specs.declared.Complex32.{Complex32}
 use Rattle.complex.specs.Complex.{difference_of, product_of, conjugate_product_of, power_of, both_finite}
-use Rattle.complex.specs.declared.Observation.{Observation}
-use Rattle.complex.specs.declared.Observation.TheVariants.{Absent, Present}
 use Rattle.channels.specs.declared.channel.Taps.{Taps}
 use Rattle.channels.specs.Channels.{level, symbol_of}
 use Rattle.answers.specs.declared.combine.Seen.{Seen}
@@ -40,7 +38,7 @@ divided_of z by = record { real = div binary32 z.real by; imaginary = div binary
 
 -- the value v and v over the main tap's power, where both are of use
 unfoldable pub observed_with : Bool → Complex32 → Float → Seen
-observed_with useful v power = cond useful (record { combined = Present v; equalized = Present (divided_of v power) }) (record { combined = Absent; equalized = Absent })
+observed_with useful v power = cond useful (record { combined = Some v; equalized = Some (divided_of v power) }) (record { combined = None; equalized = None })
 
 unfoldable pub observed_of : Complex32 → Bool → Taps → ℕ → Seen
 observed_of input reliable t p = observed_with (is_usable reliable (power_of t.main) && both_finite (weighted_of input t p)) (weighted_of input t p) (power_of t.main)
@@ -90,10 +88,10 @@ recorded_of now before noise =
     (mul binary32 (abs_of (eighth_turned_of (conjugate_product_of now before)).imaginary) (scale_of now before noise))
     (mul binary32 (abs_of (eighth_turned_of (conjugate_product_of now before)).real) (scale_of now before noise))
 
-abbrev pub record_of : Observation → Observation → Float → Soft
-record_of Absent before noise = Unrecorded
-record_of (Present a) Absent noise = Unrecorded
-record_of (Present a) (Present b) noise = recorded_of a b noise
+abbrev pub record_of : Option Complex32 → Option Complex32 → Float → Soft
+record_of None before noise = Unrecorded
+record_of (Some a) None noise = Unrecorded
+record_of (Some a) (Some b) noise = recorded_of a b noise
 
 -- ---- the ring of records
 

@@ -4,17 +4,15 @@ ghost use Rattle.answers.specs.Observed.{cancelled_of, is_usable, divided_of, ob
 
 use channels::channel::Taps;
 use channels::symbols::symbol;
-use complex::{
-    Complex32, Observation, is_finite, multiplied, multiplied_conjugate, power, subtracted,
-};
+use complex::{Complex32, is_finite, multiplied, multiplied_conjugate, power, subtracted};
 use numbers::compare::is_finite32;
 
 // The observation weighted by the main tap, so that its size follows the channel's power, and the
-// same over that power.
+// same over that power: none where the signal was not reliable.
 #[derive(Clone, Copy)]
 pub struct Seen {
-    pub combined: Observation,
-    pub equalized: Observation,
+    pub combined: Option<Complex32>,
+    pub equalized: Option<Complex32>,
 }
 
 // The input less the products of the later taps with the prior's symbols.
@@ -55,13 +53,13 @@ pub fn observed(input: Complex32, reliable: bool, t: Taps, prior: u32) -> Seen
     let v = multiplied_conjugate(cancelled(input, t, prior), main);
     if is_usable(reliable, p) & is_finite(v) {
         Seen {
-            combined: Observation::Present(v),
-            equalized: Observation::Present(divided(v, p)),
+            combined: Some(v),
+            equalized: Some(divided(v, p)),
         }
     } else {
         Seen {
-            combined: Observation::Absent,
-            equalized: Observation::Absent,
+            combined: None,
+            equalized: None,
         }
     }
 }

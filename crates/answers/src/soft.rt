@@ -3,7 +3,7 @@ ghost use Rattle.std.specs.Prelude.{◌≡◌, ◌<◌};
 ghost use Rattle.answers.specs.Observed.{noise_after_of, size_of, eighth_turned_of, scale_of, recorded_of, record_of, byte_of, agreed_of, record_before};
 
 use super::STEPS;
-use complex::{Complex32, Observation, multiplied_conjugate};
+use complex::{Complex32, multiplied_conjugate};
 use numbers::compare::{abs32, clamp32, is_finite32, max32, min32};
 use routines::hypotenuse::hypotenuse;
 use whole::to_u8;
@@ -81,13 +81,13 @@ fn recorded(now: Complex32, before: Complex32, noise: f32) -> Soft
 }
 
 // A step's record: none where this observation or the one before is absent.
-pub fn record(now: Observation, before: Observation, noise: f32) -> Soft
+pub fn record(now: Option<Complex32>, before: Option<Complex32>, noise: f32) -> Soft
     ensures { result ≡ record_of now before noise }
 {
-    let Observation::Present(a) = now else {
+    let Some(a) = now else {
         return Soft::Unrecorded;
     };
-    let Observation::Present(b) = before else {
+    let Some(b) = before else {
         return Soft::Unrecorded;
     };
     recorded(a, b, noise)

@@ -8,7 +8,7 @@ ghost use Rattle.carrier.specs.Carrier.{frequency_after_of, phase_after_of, erro
 
 use answers::soft::Soft;
 use answers::walk::Answer;
-use complex::{Complex32, Complex64, Observation};
+use complex::{Complex32, Complex64};
 use numbers::TURN;
 use numbers::compare::{clamp, clamp32};
 use numbers::narrow::widen;
@@ -41,7 +41,7 @@ pub struct Carried {
     pub place: CarrierPlace,
     pub answer: Answer,
     pub soft: Soft,
-    pub equalized: Observation,
+    pub equalized: Option<Complex32>,
 }
 
 pub fn fresh() -> CarrierPlace

@@ -21,13 +21,6 @@ pub struct Complex64 {
     pub imaginary: f64,
 }
 
-// A corrected symbol, or none where the signal was not reliable.
-#[derive(Clone, Copy)]
-pub enum Observation {
-    Absent,
-    Present(Complex32),
-}
-
 pub fn zero() -> Complex32
     ensures { result ≡ zero_pair }
 {

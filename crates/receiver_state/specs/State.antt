@@ -1,9 +1,8 @@
 -- The state of a refused and of an accepted setup, and what is shown of a state after a block. Definitions only.
-use Rattle.std.specs.Prelude.{ℕ, Bool, false, cond, List, ℤ, pos, replicate, Float}
+use Rattle.std.specs.Prelude.{ℕ, Bool, false, cond, List, ℤ, pos, replicate, Float, None}
 use Rattle.std.specs.Float.{binary64}
 use Rattle.std.specs.Float.Ieee.{of_bits, mul, div}
 use Rattle.numbers.specs.Constants.{zero32, full_turn, zero64}
-use Rattle.complex.specs.declared.Observation.TheVariants.{Absent}
 use Rattle.signal.specs.Signal as signal
 use Rattle.peak.specs.Peak as peak
 use Rattle.decimator.specs.Decimator as decimator
@@ -38,7 +37,7 @@ zero_front = record {
 unfoldable pub zero_carrier : CarrierPlace
 zero_carrier = record {
   turn = record { phase = zero64; frequency = zero64; alternation = 0; locked = false; error = zero64 };
-  detector = record { write = 0; filled = 0; previous = Unknown; combined = Absent; noise = zero32 };
+  detector = record { write = 0; filled = 0; previous = Unknown; combined = None; noise = zero32 };
 }
 
 unfoldable pub zero_chain : ChainPlace

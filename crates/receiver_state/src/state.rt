@@ -9,7 +9,6 @@ use carrier::{CarrierPlace, Loop};
 use chain::ChainPlace;
 use channels::{CHANNELS, STATES};
 use clock::ClockPlace;
-use complex::Observation;
 use equalizer::WEIGHTS;
 use filter::RING;
 use front::FrontPlace;
@@ -99,7 +98,7 @@ fn zero_carrier() -> CarrierPlace
         write: 0,
         filled: 0,
         previous: Previous::Unknown,
-        combined: Observation::Absent,
+        combined: None,
         noise: 0.0,
     };
     CarrierPlace { turn, detector }

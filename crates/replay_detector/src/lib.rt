@@ -9,7 +9,7 @@ use answers::soft::{Records, Slot, Soft};
 use answers::walk::{Answer, Previous};
 use answers::{PARENTS, STEPS};
 use channels::STATES;
-use complex::{Complex32, Observation};
+use complex::Complex32;
 use numbers::bits::float32;
 use replay::{
     mixed, mixed_bytes, mixed_flag, mixed_float32, mixed_plane, next, part, print_line, word,
@@ -81,7 +81,7 @@ pub struct MadeRecords {
 
 #[derive(Clone, Copy)]
 pub struct MadePoint {
-    pub point: Observation,
+    pub point: Option<Complex32>,
     pub seed: u64,
 }
 
@@ -168,11 +168,11 @@ pub fn made_point(s: u64, kind: u64) -> MadePoint {
         imaginary: part(kind, second, 0.0),
     };
     let point = if kind == 0 {
-        Observation::Absent
+        None
     } else if word % 3 == 0 {
-        Observation::Absent
+        None
     } else {
-        Observation::Present(value)
+        Some(value)
     };
     MadePoint {
         point,
@@ -219,10 +219,10 @@ pub fn stored(records: Records, write: usize, d: Detected) -> Records
     r
 }
 
-pub fn mixed_point(h: u64, point: Observation) -> u64 {
+pub fn mixed_point(h: u64, point: Option<Complex32>) -> u64 {
     match point {
-        Observation::Absent => mixed(h, 0),
-        Observation::Present(z) => mixed_float32(mixed_float32(mixed(h, 1), z.real), z.imaginary),
+        None => mixed(h, 0),
+        Some(z) => mixed_float32(mixed_float32(mixed(h, 1), z.real), z.imaginary),
     }
 }
 

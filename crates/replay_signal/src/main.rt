@@ -2,19 +2,19 @@
 // line for each: the digest of what it answered, the floats lent to a read included.
 #![tactic(auto)]
 
-use complex::{Complex32, Observation};
+use complex::Complex32;
 use replay::{any, mark, mixed, mixed_float, mixed_float32, mixed_plane, print_line, word};
 use signal::{POINTS, Reading, ViewPlace};
 
 // A symbol of any two floats, or none.
-fn observation(present: bool, b: u64, c: u64) -> Observation {
+fn observation(present: bool, b: u64, c: u64) -> Option<Complex32> {
     if present {
-        Observation::Present(Complex32 {
+        Some(Complex32 {
             real: any(b),
             imaginary: any(c),
         })
     } else {
-        Observation::Absent
+        None
     }
 }
 
@@ -52,7 +52,7 @@ fn shown(place: ViewPlace, real: &[f32; POINTS], imaginary: &[f32; POINTS], floa
 // A push into a place that may be run.
 fn pushed(
     place: ViewPlace,
-    symbol: Observation,
+    symbol: Option<Complex32>,
     real: &mut [f32; POINTS],
     imaginary: &mut [f32; POINTS],
 ) -> ViewPlace {

@@ -12,7 +12,7 @@ use answers::walk::Previous;
 use carrier::{CarrierPlace, Loop};
 use chain::ChainPlace;
 use clock::ClockPlace;
-use complex::{Complex32, Observation};
+use complex::Complex32;
 use decimator::{Combs, Decimator, Delays, Integrators, Sums};
 use front::FrontPlace;
 use numbers::bits::{float, float32, pattern, pattern32};
@@ -69,16 +69,16 @@ pub fn profile_of(w: u64) -> i32 {
     }
 }
 
-fn observation_at(words: &[u64; WORDS], at: usize) -> Observation
+fn observation_at(words: &[u64; WORDS], at: usize) -> Option<Complex32>
     requires { at + 2 < 18262 }
 {
     if flag_at(words, at) {
-        Observation::Present(Complex32 {
+        Some(Complex32 {
             real: float32_at(words, at + 1),
             imaginary: float32_at(words, at + 2),
         })
     } else {
-        Observation::Absent
+        None
     }
 }
 
@@ -378,12 +378,12 @@ fn put_complex(words: &mut [u64; WORDS], at: usize, present: bool, value: Comple
     put_float32(words, at + 2, value.imaginary);
 }
 
-fn put_observation(words: &mut [u64; WORDS], at: usize, o: Observation)
+fn put_observation(words: &mut [u64; WORDS], at: usize, o: Option<Complex32>)
     requires { at + 2 < 18262 }
 {
     match o {
-        Observation::Absent => put_complex(words, at, false, complex::zero()),
-        Observation::Present(v) => put_complex(words, at, true, v),
+        None => put_complex(words, at, false, complex::zero()),
+        Some(v) => put_complex(words, at, true, v),
     }
 }
 

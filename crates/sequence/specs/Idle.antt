@@ -1,5 +1,5 @@
 -- Unreliable steps from a fresh detector, whatever the inputs' values: 31 are silent and each later one gives dibit 0 with [0, 0]. Assumes nothing.
-use Rattle.std.specs.Prelude.{◌≡◌, Bool, true, false, List, [], ◌∷◌, ◌++◌, ltb, length, replicate, Float}
+use Rattle.std.specs.Prelude.{◌≡◌, Bool, true, false, List, [], ◌∷◌, ◌++◌, ltb, length, replicate, Float, Option, None}
 use Rattle.std.proofs.Math.Path.{refl, ap, ap₂}
 use Rattle.std.proofs.Common.{sym, ◌∙◌, subst, arith, get_or-set_same, get_or-set_other}
 use Rattle.std.proofs.Math.Logic.{⊎_elim}
@@ -13,8 +13,6 @@ use Rattle.laws.specs.Places.{upto_at}
 use Rattle.laws.specs.Ring.{lt_or_ge}
 use Rattle.numbers.specs.Numbers.{sign_of}
 use Rattle.complex.specs.declared.Complex32.{Complex32}
-use Rattle.complex.specs.declared.Observation.{Observation}
-use Rattle.complex.specs.declared.Observation.TheVariants.{Absent}
 use Rattle.complex.specs.Planes.{Planes}
 use Rattle.channels.specs.Channels.{prediction_of}
 use Rattle.arrivals.specs.declared.choice.Branch.{Branch}
@@ -145,11 +143,11 @@ idle_fresh = record {
   previous = tt;
 }
 
-unseen : (input : Complex32) (reliable : Bool) (t : Taps) (p : ℕ) → reliable ≡ false → (observed_of input reliable t p).combined ≡ Absent
+unseen : (input : Complex32) (reliable : Bool) (t : Taps) (p : ℕ) → reliable ≡ false → (observed_of input reliable t p).combined ≡ None
 unfolding observed_of observed_with
 unseen input reliable t p e = rw e
 
-no_record : (now before : Observation) (noise : Float) → now ≡ Absent → record_of now before noise ≡ Unrecorded
+no_record : (now before : Option Complex32) (noise : Float) → now ≡ None → record_of now before noise ≡ Unrecorded
 no_record now before noise e = rw e
 
 unrecorded : (d : Skeleton) (i : Step) → i.reliable ≡ false → (left_of d i).detected.soft ≡ Unrecorded

@@ -1,6 +1,6 @@
 -- One step of the sequence detector with the channels that it is given: the trellis, the observation and the walk back. How the channels follow is a
 -- tracker's. Definitions only.
-use Rattle.std.specs.Prelude.{ℕ, ◌+◌, ◌%◌, Bool, cond, List, ltb, get_or, replicate, Float}
+use Rattle.std.specs.Prelude.{ℕ, ◌+◌, ◌%◌, Bool, cond, List, ltb, get_or, replicate, Float, None}
 use Rattle.std.specs.Float.{binary32}
 use Rattle.std.specs.Float.Ieee.{of_bits}
 use Rattle.laws.specs.Places.{upto}
@@ -8,7 +8,6 @@ use Rattle.numbers.specs.Constants.{zero32, one32}
 use Rattle.routines.specs.Angle.{arctangent_of}
 use Rattle.complex.specs.declared.Complex32.{Complex32}
 use Rattle.complex.specs.Complex.{difference_of, conjugate_product_of, power_of}
-use Rattle.complex.specs.declared.Observation.TheVariants.{Absent}
 use Rattle.complex.specs.Planes.{Planes, point_at}
 use Rattle.channels.specs.Channels.{taps_of}
 use Rattle.trellis.specs.Trellis.{Advance, advanced_of}
@@ -29,7 +28,7 @@ abbrev pub fresh_noise : Float
 fresh_noise = of_bits binary32 0x3dcccccd  -- 0.1
 
 abbrev pub fresh_place : DetectorPlace
-fresh_place = record { write = 0; filled = 0; previous = Unknown; combined = Absent; noise = fresh_noise }
+fresh_place = record { write = 0; filled = 0; previous = Unknown; combined = None; noise = fresh_noise }
 
 -- the main tap of each state is 1, and all else is 0
 abbrev pub fresh_tap : ℕ → Float

@@ -10,7 +10,7 @@ use answers::walk::{Answer, Previous, Walked, store, walk};
 use answers::{PARENTS, STEPS};
 use channels::channel::taps_at;
 use channels::{CHANNELS, STATES};
-use complex::{Complex32, Observation, multiplied_conjugate, power, subtracted};
+use complex::{Complex32, multiplied_conjugate, power, subtracted};
 use routines::angle::arctangent;
 use trellis::step::advance;
 
@@ -22,7 +22,7 @@ pub struct DetectorPlace {
     pub write: usize,
     pub filled: usize,
     pub previous: Previous,
-    pub combined: Observation,
+    pub combined: Option<Complex32>,
     pub noise: f32,
 }
 
@@ -33,7 +33,7 @@ pub struct Detected {
     pub place: DetectorPlace,
     pub answer: Answer,
     pub soft: Soft,
-    pub equalized: Observation,
+    pub equalized: Option<Complex32>,
     pub phase: f32,
     pub power: f32,
 }
@@ -46,7 +46,7 @@ pub fn fresh() -> DetectorPlace
         write: 0,
         filled: 0,
         previous: Previous::Unknown,
-        combined: Observation::Absent,
+        combined: None,
         noise: 0.1,
     }
 }

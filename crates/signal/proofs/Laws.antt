@@ -1,6 +1,6 @@
 -- What the view shows: after any pushes the latest points in order, also once the ring has gone round, and past them what was there. The test of a place
 -- passes exactly where its ranges hold, and a push keeps them. Assumes nothing.
-use Rattle.std.specs.Prelude.{◌≡◌, ℕ, suc, ◌+◌, ◌-◌, ◌*◌, ◌/◌, ◌%◌, ◌<◌, ◌≤◌, min, Bool, true, false, cond, T, ◌⊎◌, List, [], ◌∷◌, ◌++◌, length, get_or, take, drop, ◌≢◌, nat_le, nat_lt, slice_index_or, slice_set, refl, Float}
+use Rattle.std.specs.Prelude.{◌≡◌, ℕ, suc, ◌+◌, ◌-◌, ◌*◌, ◌/◌, ◌%◌, ◌<◌, ◌≤◌, min, Bool, true, false, cond, T, ◌⊎◌, List, [], ◌∷◌, ◌++◌, length, get_or, take, drop, ◌≢◌, nat_le, nat_lt, slice_index_or, slice_set, refl, Float, Option}
 use Rattle.std.proofs.Math.Path.{ap}
 use Rattle.std.proofs.Common.{sym, ◌∙◌, inl, inr, ⊎_elim, mod-lt, ltb→lt, lt→ltb, leb→le, le→leb, length-set, length-drop, take-append-drop, get_or-set_same, get_or-set_other}
 use mathlib.Core.List.{foldl}
@@ -13,7 +13,6 @@ use Rattle.laws.specs.Places.{upto, upto_at, upto_is, length_upto, le_or}
 use Rattle.laws.specs.Ring.{Spun, Sound, spins, last, last_pushed, lt_or_ge}
 use Rattle.numbers.specs.Root.{sqrt_of}
 use Rattle.complex.specs.declared.Complex32.{Complex32}
-use Rattle.complex.specs.declared.Observation.{Observation}
 use Rattle.signal.specs.declared.ViewPlace.{ViewPlace}
 use Rattle.signal.specs.Signal.{View, fresh_place, admitted_of, Admitted, outside, point_at, paired_of, pushed_of, ring_of, last_of, parts_of, written_of, usable_of, mean_power, nothing, shown_as, shown_of, read_of}
 
@@ -33,7 +32,7 @@ pub fresh_admitted : Admitted fresh_place
 fresh_admitted = record { head = omega arith; count = omega arith }
 
 -- ADMITTED IN, ADMITTED OUT, whatever the count was
-pub pushed_admitted : (v : View) (s : Observation) → Admitted (pushed_of v s).place
+pub pushed_admitted : (v : View) (s : Option Complex32) → Admitted (pushed_of v s).place
 unfolding pushed_of
 pushed_admitted v s = record { head = mod-lt (v.place.head + 1) (omega arith); count = omega arith }
 
@@ -53,7 +52,7 @@ same_or_other i j =
 
 -- ---- pushes
 
-pub pushed_held : (v : View) (s : Observation) → Held v → Held (pushed_of v s)
+pub pushed_held : (v : View) (s : Option Complex32) → Held v → Held (pushed_of v s)
 unfolding pushed_of
 pushed_held v s h = record {
   real = length-set v.real v.place.head (paired_of v.place.previous s).real ∙ h.real;
@@ -87,29 +86,29 @@ module _ (re im : List Float) (head n : ℕ) (z : Complex32) (in_real : head < l
   points_set = sym (upto_is after n outside (slice_set before head z) (length-set before head z ∙ length_upto (point_at re im) n) set_at_after)
 
 -- a push puts its point at the head
-pub ring_pushed : (v : View) (s : Observation) → Held v → ring_of (pushed_of v s) ≡ slice_set (ring_of v) v.place.head (paired_of v.place.previous s)
+pub ring_pushed : (v : View) (s : Option Complex32) → Held v → ring_of (pushed_of v s) ≡ slice_set (ring_of v) v.place.head (paired_of v.place.previous s)
 unfolding ring_of pushed_of
 ring_pushed v s h =
     points_set v.real v.imaginary v.place.head 1024 (paired_of v.place.previous s) (omega (arith, h.real, h.inside)) (omega (arith, h.imaginary, h.inside)) h.inside
 
 -- many pushes, in order, and the points that they give
-abbrev pub pushes_of : View → List Observation → View
+abbrev pub pushes_of : View → List (Option Complex32) → View
 pushes_of v ss = foldl pushed_of v ss
 
-abbrev pub points_of : Observation → List Observation → List Complex32
+abbrev pub points_of : Option Complex32 → List (Option Complex32) → List Complex32
 points_of previous [] = []
 points_of previous (s ∷ ss) = paired_of previous s ∷ points_of s ss
 
-pub length_points : (previous : Observation) (ss : List Observation) → length (points_of previous ss) ≡ length ss
+pub length_points : (previous : Option Complex32) (ss : List (Option Complex32)) → length (points_of previous ss) ≡ length ss
 length_points previous [] = refl
 length_points previous (s ∷ ss) = ap suc (length_points s ss)
 
-pub pushes_held : (v : View) (ss : List Observation) → Held v → Held (pushes_of v ss)
+pub pushes_held : (v : View) (ss : List (Option Complex32)) → Held v → Held (pushes_of v ss)
 pushes_held v [] h = h
 pushes_held v (s ∷ ss) h = pushes_held (pushed_of v s) ss (pushed_held v s h)
 
 -- the count stops at 1,024
-pub count_pushes : (v : View) (ss : List Observation) → v.place.count ≤ 1024 → (pushes_of v ss).place.count ≡ min (v.place.count + length ss) 1024
+pub count_pushes : (v : View) (ss : List (Option Complex32)) → v.place.count ≤ 1024 → (pushes_of v ss).place.count ≡ min (v.place.count + length ss) 1024
 unfolding pushed_of
 count_pushes v [] h = omega arith
 count_pushes v (s ∷ ss) h = count_pushes (pushed_of v s) ss (omega arith) ∙ omega arith
@@ -118,7 +117,7 @@ count_pushes v (s ∷ ss) h = count_pushes (pushed_of v s) ss (omega arith) ∙ 
 abbrev pub spun_of : View → Spun outside 1024
 spun_of v = record { ring = ring_of v; head = v.place.head }
 
-pub spun_pushes : (v : View) (ss : List Observation) → Held v → spun_of (pushes_of v ss) ≡ spins outside 1024 (spun_of v) (points_of v.place.previous ss)
+pub spun_pushes : (v : View) (ss : List (Option Complex32)) → Held v → spun_of (pushes_of v ss) ≡ spins outside 1024 (spun_of v) (points_of v.place.previous ss)
 unfolding pushed_of
 spun_pushes v [] h = refl
 spun_pushes v (s ∷ ss) h =
@@ -130,7 +129,7 @@ unfolding ring_of
 ring_sound v h = record { full = length_upto _ 1024; inside = h.inside }
 
 -- THE THEOREM: whatever stood there before, the last n points are the last n of those pushed, oldest first
-pub last_latest : (v : View) (ss : List Observation) (n : ℕ) → Held v → n ≤ length ss → n ≤ 1024
+pub last_latest : (v : View) (ss : List (Option Complex32)) (n : ℕ) → Held v → n ≤ length ss → n ≤ 1024
     → last_of (pushes_of v ss) n ≡ drop (length ss - n) (points_of v.place.previous ss)
 unfolding last_of
 last_latest v ss n h le room =
@@ -144,7 +143,7 @@ last_latest v ss n h le room =
     ∙ last_pushed outside 1024 (spun_of v) (take m zs) (drop m zs) (ring_sound v h) (rw len room)
 
 -- so a read after any pushes shows the latest of them, as many as are held and have room
-pub read_latest : (v : View) (ss : List Observation) (l : List Float) (n : ℕ) → Held v → v.place.count ≤ 1024
+pub read_latest : (v : View) (ss : List (Option Complex32)) (l : List Float) (n : ℕ) → Held v → v.place.count ≤ 1024
     → n ≡ min (min (v.place.count + length ss) 1024) (length l / 2) → n ≤ length ss
     → read_of (pushes_of v ss) l ≡ shown_of (drop (length ss - n) (points_of v.place.previous ss)) l
 read_latest v ss l n h most e le =

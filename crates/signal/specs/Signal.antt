@@ -1,5 +1,5 @@
 -- The constellation view: a push, and a read. Definitions only.
-use Rattle.std.specs.Prelude.{ℕ, ◌+◌, ◌*◌, ◌/◌, ◌%◌, ◌<◌, ◌≤◌, min, Bool, cond, not, ◌&&◌, List, [], ◌∷◌, ◌++◌, length, drop, pos, ◌==◌, from_bits, nat_le, nat_lt, slice_index_or, slice_set, Float}
+use Rattle.std.specs.Prelude.{ℕ, ◌+◌, ◌*◌, ◌/◌, ◌%◌, ◌<◌, ◌≤◌, min, Bool, cond, not, ◌&&◌, List, [], ◌∷◌, ◌++◌, length, drop, pos, ◌==◌, from_bits, nat_le, nat_lt, slice_index_or, slice_set, Float, Option, None, Some}
 use mathlib.Core.List.{foldl}
 use Rattle.std.specs.Float.{nan, binary32, binary64}
 use Rattle.std.specs.Float.Ieee.{of_int, add, sub, mul, div, lt}
@@ -10,8 +10,6 @@ use Rattle.numbers.specs.Numbers.{abs_of, is_finite, convert}
 use Rattle.numbers.specs.Root.{sqrt_of}
 use Rattle.complex.specs.declared.Complex32.{Complex32}
 use Rattle.complex.specs.Complex.{root_half, zero_pair, conjugate_product_of}
-use Rattle.complex.specs.declared.Observation.{Observation}
-use Rattle.complex.specs.declared.Observation.TheVariants.{Absent, Present}
 use Rattle.signal.specs.declared.ViewPlace.{ViewPlace}
 use Rattle.signal.specs.declared.Reading.{Reading}
 
@@ -25,7 +23,7 @@ abbrev pub view_of : ViewPlace → List Float → List Float → View
 view_of p re im = record { place = p; real = re; imaginary = im }
 
 abbrev pub fresh_place : ViewPlace
-fresh_place = record { previous = Absent; head = 0; count = 0 }
+fresh_place = record { previous = None; head = 0; count = 0 }
 
 -- ---- the places that may be run: head below 1,024, count at most 1,024, any observation before
 abbrev pub admitted_of : ViewPlace → Bool
@@ -50,13 +48,13 @@ abbrev pub rotated_of : Complex32 → Complex32 → Complex32
 rotated_of previous symbol = eighth_turn_of (conjugate_product_of symbol previous)
 
 -- a pair of present symbols gives the rotated product; a missing one gives a zero point
-abbrev pub paired_of : Observation → Observation → Complex32
-paired_of Absent symbol = zero_pair
-paired_of (Present p) Absent = zero_pair
-paired_of (Present p) (Present s) = rotated_of p s
+abbrev pub paired_of : Option Complex32 → Option Complex32 → Complex32
+paired_of None symbol = zero_pair
+paired_of (Some p) None = zero_pair
+paired_of (Some p) (Some s) = rotated_of p s
 
 -- a missing symbol breaks the pair: it is the observation before the next
-unfoldable pub pushed_of : View → Observation → View
+unfoldable pub pushed_of : View → Option Complex32 → View
 pushed_of v s = record {
   place = record { previous = s; head = (v.place.head + 1) % 1024; count = min (v.place.count + 1) 1024 };
   real = slice_set v.real v.place.head (paired_of v.place.previous s).real;

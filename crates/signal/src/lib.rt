@@ -11,7 +11,7 @@ ghost use Rattle.signal.specs.Powers.{PowerOf};
 mod plain;
 mod rows;
 
-use complex::{Complex32, Observation};
+use complex::Complex32;
 use numbers::compare::{abs, is_finite};
 use numbers::narrow::{narrow, widen};
 use patterns::least_usize;
@@ -32,7 +32,7 @@ const IDEAL: f64 = 0.7071067811865476;
 // many points are held, at most 1,024.
 #[derive(Clone, Copy)]
 pub struct ViewPlace {
-    pub previous: Observation,
+    pub previous: Option<Complex32>,
     pub head: usize,
     pub count: usize,
 }
@@ -49,7 +49,7 @@ pub fn fresh() -> ViewPlace
     ensures { result ≡ fresh_place }
 {
     ViewPlace {
-        previous: Observation::Absent,
+        previous: None,
         head: 0,
         count: 0,
     }
@@ -76,13 +76,13 @@ fn rotated(previous: Complex32, symbol: Complex32) -> Complex32
 }
 
 // The point of two observations: zero where one is absent.
-fn paired(previous: Observation, symbol: Observation) -> Complex32
+fn paired(previous: Option<Complex32>, symbol: Option<Complex32>) -> Complex32
     ensures { result ≡ paired_of previous symbol }
 {
-    let Observation::Present(before) = previous else {
+    let Some(before) = previous else {
         return complex::zero();
     };
-    let Observation::Present(now) = symbol else {
+    let Some(now) = symbol else {
         return complex::zero();
     };
     rotated(before, now)
@@ -98,7 +98,7 @@ fn counted(count: usize) -> usize
 // Puts the point of `symbol` and the observation before it in the place of the oldest.
 pub fn push(
     place: ViewPlace,
-    symbol: Observation,
+    symbol: Option<Complex32>,
     real: &mut [f32; POINTS],
     imaginary: &mut [f32; POINTS],
 ) -> ViewPlace
