@@ -9,16 +9,6 @@ use crate::{ClockPlace, Due, Stepped};
 use complex::Complex32;
 use filter::RING;
 
-// How far a position lies beyond 12.
-fn beyond(position: usize) -> usize
-    ensures { result ≡ position - 12 }
-{
-    if 12 < position {
-        return position - 12;
-    }
-    0
-}
-
 // The place after a symbol whose windows began at `first`: the next begin four samples on, and
 // samples before position 12 are dropped.
 fn moved_on(c: ClockPlace, phase: f32, first: usize) -> ClockPlace
@@ -29,7 +19,7 @@ fn moved_on(c: ClockPlace, phase: f32, first: usize) -> ClockPlace
         (record { start = c.start; count = c.count; position = first + 4; warm = true; phase = phase; rate = c.rate }) }
 {
     let position = first + 4;
-    let dropped = beyond(position);
+    let dropped = position.saturating_sub(12);
     ClockPlace {
         start: (c.start + dropped) % RING,
         count: c.count - dropped,

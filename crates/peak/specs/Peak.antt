@@ -1,5 +1,5 @@
 -- The peak keeper, as the Rust's symbol chain has it. Definitions only.
-use Rattle.std.specs.Prelude.{ℕ, ◌+◌, ◌%◌, ◌<◌, ◌≤◌, Bool, ◌&&◌, cond, List, Option, Some, None, ltb, leb, get_or, set, Float}
+use Rattle.std.specs.Prelude.{ℕ, ◌+◌, ◌%◌, ◌<◌, ◌≤◌, Bool, ◌&&◌, cond, List, Some, None, ltb, leb, get_or, set, Float}
 use Rattle.std.specs.Float.{nan, binary32}
 use Rattle.std.specs.Float.Ieee.{of_bits, add, mul, div, lt, le}
 use Rattle.laws.specs.Turns.{turns}

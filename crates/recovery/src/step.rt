@@ -87,9 +87,10 @@ pub fn step<'a>(
         &derivative_imaginary,
         level.reliable,
     );
+    let turned = update(ticked.place, e.timing);
     let place = RecoveryPlace {
         keeper: k.place,
-        clock: update(ticked.place, e.timing),
+        clock: turned,
     };
     let found = Found {
         symbol: e.value,

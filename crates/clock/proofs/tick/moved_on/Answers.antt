@@ -4,4 +4,4 @@ use Rattle.std.proofs.Common.{rules}
 use Rattle.clock.proofs.tick.moved_on.Goals as goal
 
 pub returns : goal.returns
-returns c = dropped_is _ _ _ _ _ _ (search rules) c.beyond-dropped.ensures
+returns c = dropped_is _ _ _ _ _ _ (search rules) c.saturating_sub-dropped.ensures

@@ -7,18 +7,6 @@ use Rattle.recovery.proofs.row.row.Goals as goal
 pub loop-i-init : goal.loop-i-init
 loop-i-init c = (c.requires.sizes_value, row_start _ _ _ _ _)
 
-pub offset_bounds-row_real-i : goal.offset_bounds-row_real-i
-offset_bounds-row_real-i c = let a = c.loop-i-test in let b = c.requires.given_row.symbols.room in search (rules, a, b)
-
-pub bounds-row_real-i : goal.bounds-row_real-i
-bounds-row_real-i c = let a = c.loop-i-test in let b = c.requires.given_row.symbols.room in search (rules, a, b)
-
-pub offset_bounds-row_imaginary-i : goal.offset_bounds-row_imaginary-i
-offset_bounds-row_imaginary-i c = let a = c.loop-i-test in let b = c.requires.given_row.symbols.room in search (rules, a, b)
-
-pub bounds-row_imaginary-i : goal.bounds-row_imaginary-i
-bounds-row_imaginary-i c = let a = c.loop-i-test in let b = c.requires.given_row.symbols.room in search (rules, a, b)
-
 pub link-t-requires : goal.link-t-requires
 link-t-requires c =
     let asked = c.requires in

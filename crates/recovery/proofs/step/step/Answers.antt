@@ -27,4 +27,4 @@ returns c =
     let is_level = c.in-Some.is in
     let is_clocked = c.step-ticked.ensures in
     let is_due = c.in-Some-due.is in
-    (stepped_here _ _ _ _ _ is_kept.same _ is_level _ is_clocked.same _ _ _ is_due c.equalize-e.ensures c.update.ensures, is_kept.envelopes)
+    (stepped_here _ _ _ _ _ is_kept.same _ is_level _ is_clocked.same _ _ _ is_due c.equalize-e.ensures c.update-turned.ensures, is_kept.envelopes)
