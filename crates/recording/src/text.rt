@@ -13,45 +13,60 @@ pub struct Totals {
     pub overload: u64,
 }
 
-// A text as it stands.
-#[tactic(auto, using(crate::specs::TextLaws::put_part))]
-fn copied(text: &[u8], out: &mut [u8], at: usize) -> usize
-    requires { at + length text.now ≤ length out.old }
-    ensures { written_of result out.new ≡ put text.now (written_of at out.old) }
-{
-    let end = at + text.len();
-    out[at..end].copy_from_slice(text);
-    end
+// The bytes lent, and the place in them where the next one goes.
+#[derive(Drop)]
+struct Text<'a> {
+    out: &'a mut [u8],
+    at: usize,
 }
 
-// A number in decimal.
-fn decimal(n: u64, out: &mut [u8], at: usize) -> usize
-    requires { at + length (decimal_of n) ≤ length out.old }
-    ensures { written_of result out.new ≡ put (decimal_of n) (written_of at out.old) }
-{
-    let mut digits = [0u8; 20];
-    let k = io::decimal(n, &mut digits);
-    copied(&digits[..k], out, at)
-}
+impl<'a> Text<'a> {
+    // A text as it stands.
+    #[tactic(auto, using(crate::specs::TextLaws::put_part))]
+    fn put(&mut self, text: &[u8])
+        requires { self.old.at + length text.now ≤ length self.old.out.now }
+        ensures lent { self.new.out.ghost_name ≡ self.old.out.ghost_name }
+        ensures same { written_of self.new.at self.new.out.now ≡ put text.now (written_of self.old.at self.old.out.now) }
+    {
+        let end = self.at + text.len();
+        self.out[self.at..end].copy_from_slice(text);
+        self.at = end;
+    }
 
-// A number in decimal and the character that ends it.
-fn ended(n: u64, end: u8, out: &mut [u8], at: usize) -> usize
-    requires { at + length (ended_of n end) ≤ length out.old }
-    ensures { written_of result out.new ≡ put (ended_of n end) (written_of at out.old) }
-{
-    let after = decimal(n, out, at);
-    out[after] = end;
-    after + 1
-}
+    // A number in decimal and the character that ends it.
+    fn ended(&mut self, n: u64, end: u8)
+        requires { self.old.at + length (ended_of n end) ≤ length self.old.out.now }
+        ensures lent { self.new.out.ghost_name ≡ self.old.out.ghost_name }
+        ensures same { written_of self.new.at self.new.out.now ≡ put (ended_of n end) (written_of self.old.at self.old.out.now) }
+    {
+        let mut digits = [0u8; 20];
+        let k = io::decimal(n, &mut digits);
+        self.put(&digits[..k]);
+        self.put(&[end]);
+    }
 
-// A byte in decimal and the character that ends it.
-fn byte(n: u8, end: u8, out: &mut [u8], at: usize) -> usize
-    requires { at + 4 ≤ length out.old }
-    ensures same { written_of result out.new ≡ put (ended_of n end) (written_of at out.old) }
-    ensures near { result ≤ at + 4 }
-    ensures kept { length out.new ≡ length out.old }
-{
-    ended(n as u64, end, out, at)
+    // A byte in decimal and the character that ends it.
+    fn byte(&mut self, n: u8, end: u8)
+        requires { self.old.at + 4 ≤ length self.old.out.now }
+        ensures lent { self.new.out.ghost_name ≡ self.old.out.ghost_name }
+        ensures same { written_of self.new.at self.new.out.now ≡ put (ended_of n end) (written_of self.old.at self.old.out.now) }
+        ensures near { self.new.at ≤ self.old.at + 4 }
+        ensures kept { length self.new.out.now ≡ length self.old.out.now }
+    {
+        self.ended(u64::from(n), end);
+    }
+
+    // A word and a number on a line of their own.
+    fn field(&mut self, word: &[u8], n: u64)
+        requires { self.old.at + (length word.now + 21) ≤ length self.old.out.now }
+        ensures lent { self.new.out.ghost_name ≡ self.old.out.ghost_name }
+        ensures same { written_of self.new.at self.new.out.now ≡ put (field_of word.now n) (written_of self.old.at self.old.out.now) }
+        ensures near { self.new.at ≤ self.old.at + (length word.now + 21) }
+        ensures kept { length self.new.out.now ≡ length self.old.out.now }
+    {
+        self.put(word);
+        self.ended(n, b'\n');
+    }
 }
 
 // A dibit's line: value, first reliability, second.
@@ -61,9 +76,11 @@ pub fn line(value: u8, first: u8, second: u8, out: &mut [u8], at: usize) -> usiz
     ensures near { result ≤ at + 12 }
     ensures kept { length out.new ≡ length out.old }
 {
-    let a = byte(value, b' ', out, at);
-    let b = byte(first, b' ', out, a);
-    byte(second, b'\n', out, b)
+    let mut text = Text { out, at };
+    text.byte(value, b' ');
+    text.byte(first, b' ');
+    text.byte(second, b'\n');
+    text.at
 }
 
 // The lines of the first n dibits, each with two reliabilities.
@@ -88,17 +105,6 @@ pub fn lines(dibits: &[u8], reliabilities: &[u8], n: usize, out: &mut [u8], at: 
     after
 }
 
-// A word and a number on a line of their own.
-fn field(word: &[u8], n: u64, out: &mut [u8], at: usize) -> usize
-    requires { at + (length word.now + 21) ≤ length out.old }
-    ensures same { written_of result out.new ≡ put (field_of word.now n) (written_of at out.old) }
-    ensures near { result ≤ at + (length word.now + 21) }
-    ensures kept { length out.new ≡ length out.old }
-{
-    let after = copied(word, out, at);
-    ended(n, b'\n', out, after)
-}
-
 // The four closing lines.
 pub fn closing(t: Totals, out: &mut [u8], at: usize) -> usize
     requires { at + 120 ≤ length out.old }
@@ -106,10 +112,12 @@ pub fn closing(t: Totals, out: &mut [u8], at: usize) -> usize
     ensures near { result ≤ at + 120 }
     ensures kept { length out.new ≡ length out.old }
 {
-    let a = field(b"symbols ", t.symbols, out, at);
-    let b = field(b"locked ", t.locked, out, a);
-    let c = field(b"lock ", u64::from(t.lock), out, b);
-    field(b"overload ", t.overload, out, c)
+    let mut text = Text { out, at };
+    text.field(b"symbols ", t.symbols);
+    text.field(b"locked ", t.locked);
+    text.field(b"lock ", u64::from(t.lock));
+    text.field(b"overload ", t.overload);
+    text.at
 }
 
 // The line of a refusal.
@@ -119,5 +127,7 @@ pub fn refused(n: u32, out: &mut [u8], at: usize) -> usize
     ensures near { result ≤ at + 30 }
     ensures kept { length out.new ≡ length out.old }
 {
-    field(b"refused ", n as u64, out, at)
+    let mut text = Text { out, at };
+    text.field(b"refused ", u64::from(n));
+    text.at
 }

@@ -11,40 +11,15 @@ use answers::soft::Records;
 use channels::{CHANNELS, STATES};
 use drift_tracker::DRIFTS;
 use least_squares::ALL;
-use replay::{fill, mixed_plane, print_line, word};
+use replay::{fill, record};
 use replay_detector::{
-    Request, decoded, fill_parents, input, made_place, made_records, mixed_place, mixed_steps,
-    shown, started, stored, told,
+    Request, decoded, fill_parents, made_place, made_records, read_step, started, stored, tell,
 };
-use sequence::step::{Detected, DetectorPlace};
-
-fn tell(
-    asked: u64,
-    d: Detected,
-    records: Records,
-    real: &[f32; CHANNELS],
-    imaginary: &[f32; CHANNELS],
-    drift: &[f32; DRIFTS],
-    inverse: &[f32; ALL],
-    costs: &[f32; STATES],
-    parents: &[u8; PARENTS],
-) {
-    let answer = d.answer;
-    let place = d.place;
-    if asked == 1 {
-        print_line(shown(answer), 16);
-        return;
-    }
-    let h = mixed_place(told(d), place);
-    let channels = mixed_plane(mixed_plane(h, real), imaginary);
-    let tracker = mixed_plane(mixed_plane(channels, drift), inverse);
-    print_line(mixed_steps(tracker, costs, parents, records), 16);
-}
+use sequence::step::DetectorPlace;
 
 // Steps, as many as the run says or as there are.
 fn run(
-    asked: u64,
-    count: u64,
+    q: Request,
     place: DetectorPlace,
     held: Records,
     real: &mut [f32; CHANNELS],
@@ -58,32 +33,33 @@ fn run(
 {
     let mut p = place;
     let mut records = held;
-    let mut left = count;
-    while left > 0 {
-        let mut step = [0u8; 16];
-        io::read_full(0, &mut step);
-        let write = p.write;
+    for _ in 0..q.count {
+        let step = read_step();
         let mut next = [0.0; ALL];
         let d = drift_detector::step(
             p,
-            input(word(&step, 0)),
-            word(&step, 8) == 1,
-            answers::soft::oldest(records, write),
-            &mut *real,
-            &mut *imaginary,
-            &mut *drift,
+            step.input,
+            step.reliable,
+            answers::soft::oldest(records, p.write),
+            real,
+            imaginary,
+            drift,
             inverse,
             &mut next,
-            &mut *costs,
-            &mut *parents,
+            costs,
+            parents,
         );
         *inverse = next;
-        records = stored(records, write, d);
+        records = stored(records, p.write, d);
         tell(
-            asked, d, records, real, imaginary, drift, inverse, costs, parents,
+            q.asked,
+            d,
+            &[real, imaginary, drift, inverse],
+            costs,
+            parents,
+            records,
         );
         p = d.place;
-        left -= 1;
     }
 }
 
@@ -101,10 +77,8 @@ fn prior(e: usize) -> f32 {
 // The fresh inverses of all states, four states side by side.
 fn fresh_inverses() -> [f32; ALL] {
     let mut inverse = [0.0; ALL];
-    let mut k = 0;
-    while k < 4096 {
+    for k in 0..4096 {
         inverse[k] = prior(k / 4 % 64);
-        k += 1;
     }
     inverse
 }
@@ -118,21 +92,18 @@ fn answer(q: Request) {
     let mut inverse = fresh_inverses();
     let mut costs: [f32; STATES] = [0.0; STATES];
     let mut parents: [u8; PARENTS] = [0; PARENTS];
-    let s1 = fill(q.seed, kind, &mut real);
-    let s2 = fill(s1, kind, &mut imaginary);
-    let s3 = fill(s2, kind, &mut drift);
-    let s4 = fill(s3, start.inverses, &mut inverse);
-    let s5 = fill(s4, start.costs, &mut costs);
-    let s6 = fill_parents(s5, kind, &mut parents);
-    let records = made_records(s6, kind);
+    let seed = fill(q.seed, kind, &mut real);
+    let seed = fill(seed, kind, &mut imaginary);
+    let seed = fill(seed, kind, &mut drift);
+    let seed = fill(seed, start.inverses, &mut inverse);
+    let seed = fill(seed, start.costs, &mut costs);
+    let seed = fill_parents(seed, kind, &mut parents);
+    let records = made_records(seed, kind);
     let place = made_place(start, records.seed);
-    let held = records.records;
-    let here = place.place;
     run(
-        q.asked,
-        q.count,
-        here,
-        held,
+        q,
+        place.place,
+        records.records,
         &mut real,
         &mut imaginary,
         &mut drift,
@@ -142,24 +113,8 @@ fn answer(q: Request) {
     );
 }
 
-// Whether a run was read, and answered.
-fn answered() -> bool {
-    let mut head = [0u8; 32];
-    let got = io::read_full(0, &mut head);
-    if got < 32 {
-        return false;
-    }
-    answer(decoded(&head));
-    true
-}
-
 fn main() {
-    let mut left: u64 = 1000000;
-    while left > 0 {
-        if answered() {
-            left -= 1;
-        } else {
-            left = 0;
-        }
+    for head in std::iter::from_fn(record::<32>).take(1_000_000) {
+        answer(decoded(&head));
     }
 }

@@ -1,11 +1,7 @@
--- `text::closing` meets its contract: the four fields one after the other, and their room.
+-- `text::closing` meets its contract: the four fields one after the other.
+use Rattle.std.proofs.Common.{rules}
 use Rattle.recording.specs.TextLaws.{closing_put}
-use borrow.Author.Rules.{rules}
 use Rattle.recording.proofs.text.closing.Goals as goal
 
-pub returns : goal.returns
-returns c =
-    let field_says = c.field-a.ensures in
-    let field2_says = c.field-b.ensures in
-    let field3_says = c.field-c.ensures in
-    record { same = closing_put _ _ _ _ _ _ _ (search rules) field_says.same field2_says.same field3_says.same c.field.ensures.same; near = search rules; kept = search rules }
+pub returns-clause-same : goal.returns-clause-same
+returns-clause-same c = closing_put _ _ _ _ _ _ _ (search rules) c.field.ensures.same c.field-2.ensures.same c.field-3.ensures.same (search (rules, c.field-4.ensures.same))

@@ -1,8 +1,8 @@
 -- `text::refused` meets its contract: the field with the refusal's number.
+use Rattle.std.proofs.Common.{rules}
 use Rattle.recording.specs.Text.{refused_of}
-use borrow.Author.Rules.{rules}
 use Rattle.recording.proofs.text.refused.Goals as goal
 
-pub returns : goal.returns
+pub returns-clause-same : goal.returns-clause-same
 unfolding refused_of
-returns c = record { same = c.field.ensures.same; near = search rules; kept = search rules }
+returns-clause-same c = search (rules, c.field.ensures.same)
