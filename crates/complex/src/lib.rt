@@ -21,6 +21,13 @@ pub struct Complex64 {
     pub imaginary: f64,
 }
 
+// Complex values, real parts and imaginary parts apart.
+#[derive(Clone, Copy)]
+pub struct Planes<const N: usize> {
+    pub real: [f32; N],
+    pub imaginary: [f32; N],
+}
+
 // A corrected symbol, or none where the signal was not reliable.
 #[derive(Clone, Copy)]
 pub enum Observation {
