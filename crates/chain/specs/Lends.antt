@@ -1,11 +1,15 @@
 -- What the chain is lent, by the names of its parameters: each is a type that computes to the clause written out. Definitions only.
-use Rattle.std.specs.Prelude.{ℕ, Float}
+use Rattle.std.specs.Prelude.{ℕ, List, Float}
+use Rattle.std.specs.Borrow.{MutBor}
+use denote.Triple.Both.{Both}
 use Rattle.laws.specs.Lent.{NowMut, LendsMut}
 use Rattle.decisions.specs.Decisions as Decisions
 use Rattle.second.specs.Second.{second_of}
 use Rattle.delivery.specs.declared.Delivered.{Delivered}
 use Rattle.delivery.specs.Delivery as Delivery
 use Rattle.delivery.specs.Delivery.{Room}
+use Rattle.chain.specs.declared.ChainPlanes.{ChainPlanes}
+use Rattle.chain.specs.declared.DecisionsPlanes.{DecisionsPlanes}
 use Rattle.chain.specs.declared.Chained.{Chained}
 use Rattle.chain.specs.declared.later.LaterPlace.{LaterPlace}
 use Rattle.chain.specs.Chain.{state_of}
@@ -30,105 +34,42 @@ module _ (t r : Delivered) (dibits reliabilities others other_reliabilities : Le
       (record { dibits = others.exit.now; reliabilities = other_reliabilities.exit.now; written = r.written })
 
 -- ---- the later stages, as they are given and as they are left
-module _ (t : LaterPlace) (channel_real channel_imaginary costs : NowMut Float) (parents : NowMut ℕ) (view_real view_imaginary : NowMut Float) (memory : NowMut Float) (ancestors : NowMut ℕ)
-    (dibits reliabilities others other_reliabilities : NowMut ℕ) where
-  abbrev pub GivenLater : (Later → Type 0) → Type 0
-  GivenLater P =
-      P
-      (record {
-        state =
-            Decisions.state_of t.decided.place
-            channel_real.now channel_imaginary.now
-            costs.now parents.now
-            view_real.now view_imaginary.now;
-        records = t.decided.records.slots;
-        second = second_of t.second memory.now ancestors.now;
-        delivery = record { place = t.delivered.place; room = record { dibits = dibits.now; reliabilities = reliabilities.now; written = t.delivered.written } };
-        other = record { dibits = others.now; reliabilities = other_reliabilities.now; written = t.delivered.written };
-      })
+abbrev pub later_now : LaterPlace → DecisionsPlanes → List Float → List ℕ → List ℕ → List ℕ → List ℕ → List ℕ → Later
+later_now t planes memory ancestors ds rs es qs = record {
+  state = Decisions.state_of t.decided.place planes.channels.real planes.channels.imaginary planes.costs planes.parents planes.view.real planes.view.imaginary;
+  records = t.decided.records.slots;
+  second = second_of t.second memory ancestors;
+  delivery = record { place = t.delivered.place; room = record { dibits = ds; reliabilities = rs; written = t.delivered.written } };
+  other = record { dibits = es; reliabilities = qs; written = t.delivered.written };
+}
 
-module _ (t r : LaterPlace) (channel_real channel_imaginary costs : LendsMut Float) (parents : LendsMut ℕ) (view_real view_imaginary : LendsMut Float) (memory : LendsMut Float) (ancestors : LendsMut ℕ)
-    (dibits reliabilities others other_reliabilities : LendsMut ℕ) where
+module _ (t : LaterPlace) (planes : MutBor DecisionsPlanes) (memory : NowMut Float) (ancestors dibits reliabilities others other_reliabilities : NowMut ℕ) where
+  abbrev pub GivenLater : (Later → Type 0) → Type 0
+  GivenLater P = P (later_now t planes.now memory.now ancestors.now dibits.now reliabilities.now others.now other_reliabilities.now)
+
+module _ (t r : LaterPlace) (planes : Both (MutBor DecisionsPlanes) (MutBor DecisionsPlanes)) (memory : LendsMut Float) (ancestors dibits reliabilities others other_reliabilities : LendsMut ℕ) where
   abbrev pub LeavesLater : (Later → Later → Type 0) → Type 0
   LeavesLater Q =
       Q
-      (record {
-        state =
-            Decisions.state_of t.decided.place
-            channel_real.entry.now channel_imaginary.entry.now
-            costs.entry.now parents.entry.now
-            view_real.entry.now view_imaginary.entry.now;
-        records = t.decided.records.slots;
-        second = second_of t.second memory.entry.now ancestors.entry.now;
-        delivery = record { place = t.delivered.place; room = record { dibits = dibits.entry.now; reliabilities = reliabilities.entry.now; written = t.delivered.written } };
-        other = record { dibits = others.entry.now; reliabilities = other_reliabilities.entry.now; written = t.delivered.written };
-      })
-      (record {
-        state =
-            Decisions.state_of r.decided.place
-            channel_real.exit.now channel_imaginary.exit.now
-            costs.exit.now parents.exit.now
-            view_real.exit.now view_imaginary.exit.now;
-        records = r.decided.records.slots;
-        second = second_of r.second memory.exit.now ancestors.exit.now;
-        delivery = record { place = r.delivered.place; room = record { dibits = dibits.exit.now; reliabilities = reliabilities.exit.now; written = r.delivered.written } };
-        other = record { dibits = others.exit.now; reliabilities = other_reliabilities.exit.now; written = r.delivered.written };
-      })
+      (later_now t planes.entry.now memory.entry.now ancestors.entry.now dibits.entry.now reliabilities.entry.now others.entry.now other_reliabilities.entry.now)
+      (later_now r planes.exit.now memory.exit.now ancestors.exit.now dibits.exit.now reliabilities.exit.now others.exit.now other_reliabilities.exit.now)
 
--- ---- the chain with its soft records and its rooms, as it is given
-module _ (t : Chained) (keeper_real keeper_imaginary clock_real clock_imaginary weight_real weight_imaginary : NowMut Float)
-    (channel_real channel_imaginary costs : NowMut Float) (parents : NowMut ℕ) (view_real view_imaginary : NowMut Float) (memory : NowMut Float) (ancestors : NowMut ℕ)
-    (dibits reliabilities others other_reliabilities : NowMut ℕ) where
+-- ---- the chain with its soft records and its rooms, as it is given and as it is left
+abbrev pub lent_now : Chained → ChainPlanes → List Float → List ℕ → List ℕ → List ℕ → List ℕ → List ℕ → Lent
+lent_now t planes memory ancestors ds rs es qs = record {
+  state = state_of t.place planes (second_of t.second memory ancestors);
+  records = t.records.slots;
+  room = record { dibits = ds; reliabilities = rs; written = t.written };
+  other = record { dibits = es; reliabilities = qs; written = t.written };
+}
+
+module _ (t : Chained) (planes : MutBor ChainPlanes) (memory : NowMut Float) (ancestors dibits reliabilities others other_reliabilities : NowMut ℕ) where
   abbrev pub Given : (Lent → Type 0) → Type 0
-  Given P =
-      P
-      (record {
-        state =
-            state_of t.place
-            keeper_real.now keeper_imaginary.now
-            clock_real.now clock_imaginary.now
-            weight_real.now weight_imaginary.now
-            channel_real.now channel_imaginary.now
-            costs.now parents.now
-            view_real.now view_imaginary.now
-            (second_of t.second memory.now ancestors.now);
-        records = t.records.slots;
-        room = record { dibits = dibits.now; reliabilities = reliabilities.now; written = t.written };
-        other = record { dibits = others.now; reliabilities = other_reliabilities.now; written = t.written };
-      })
+  Given P = P (lent_now t planes.now memory.now ancestors.now dibits.now reliabilities.now others.now other_reliabilities.now)
 
--- and as it is left
-module _ (t r : Chained) (keeper_real keeper_imaginary clock_real clock_imaginary weight_real weight_imaginary : LendsMut Float)
-    (channel_real channel_imaginary costs : LendsMut Float) (parents : LendsMut ℕ) (view_real view_imaginary : LendsMut Float) (memory : LendsMut Float) (ancestors : LendsMut ℕ)
-    (dibits reliabilities others other_reliabilities : LendsMut ℕ) where
+module _ (t r : Chained) (planes : Both (MutBor ChainPlanes) (MutBor ChainPlanes)) (memory : LendsMut Float) (ancestors dibits reliabilities others other_reliabilities : LendsMut ℕ) where
   abbrev pub Leaves : (Lent → Lent → Type 0) → Type 0
   Leaves Q =
       Q
-      (record {
-        state =
-            state_of t.place
-            keeper_real.entry.now keeper_imaginary.entry.now
-            clock_real.entry.now clock_imaginary.entry.now
-            weight_real.entry.now weight_imaginary.entry.now
-            channel_real.entry.now channel_imaginary.entry.now
-            costs.entry.now parents.entry.now
-            view_real.entry.now view_imaginary.entry.now
-            (second_of t.second memory.entry.now ancestors.entry.now);
-        records = t.records.slots;
-        room = record { dibits = dibits.entry.now; reliabilities = reliabilities.entry.now; written = t.written };
-        other = record { dibits = others.entry.now; reliabilities = other_reliabilities.entry.now; written = t.written };
-      })
-      (record {
-        state =
-            state_of r.place
-            keeper_real.exit.now keeper_imaginary.exit.now
-            clock_real.exit.now clock_imaginary.exit.now
-            weight_real.exit.now weight_imaginary.exit.now
-            channel_real.exit.now channel_imaginary.exit.now
-            costs.exit.now parents.exit.now
-            view_real.exit.now view_imaginary.exit.now
-            (second_of r.second memory.exit.now ancestors.exit.now);
-        records = r.records.slots;
-        room = record { dibits = dibits.exit.now; reliabilities = reliabilities.exit.now; written = r.written };
-        other = record { dibits = others.exit.now; reliabilities = other_reliabilities.exit.now; written = r.written };
-      })
+      (lent_now t planes.entry.now memory.entry.now ancestors.entry.now dibits.entry.now reliabilities.entry.now others.entry.now other_reliabilities.entry.now)
+      (lent_now r planes.exit.now memory.exit.now ancestors.exit.now dibits.exit.now reliabilities.exit.now others.exit.now other_reliabilities.exit.now)

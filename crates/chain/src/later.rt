@@ -6,14 +6,14 @@ ghost use Rattle.chain.specs.Later.{said_row, Asks};
 ghost use Rattle.chain.specs.LaterLaws.{AsksRooms};
 ghost use Rattle.chain.specs.Lends.{GivenRooms, LeavesRooms, GivenLater, LeavesLater};
 
+use super::DecisionsPlanes;
 use answer_row::{BYTES, FLAGS};
 use answers::PARENTS;
-use channels::{CHANNELS, STATES};
+use complex::Planes;
 use decisions::{Decided, decide};
 use delivery::{Delivered, deliver};
 use recovery::ROW;
 use second::Second;
-use signal::POINTS;
 
 // The first stream's place and soft records, the second's, and the counts with how many dibits are written.
 #[derive(Clone, Copy)]
@@ -70,16 +70,10 @@ fn tell(
 // Takes the first `count` symbols of a row.
 pub fn later(
     first: LaterPlace,
-    symbol_real: &[f32; ROW],
-    symbol_imaginary: &[f32; ROW],
+    symbols: &Planes<ROW>,
     reliable: &[bool; ROW],
     count: usize,
-    channel_real: &mut [f32; CHANNELS],
-    channel_imaginary: &mut [f32; CHANNELS],
-    costs: &mut [f32; STATES],
-    parents: &mut [u8; PARENTS],
-    view_real: &mut [f32; POINTS],
-    view_imaginary: &mut [f32; POINTS],
+    planes: &mut DecisionsPlanes,
     memory: &mut [f32],
     ancestors: &mut [u8; PARENTS],
     dibits: &mut [u8],
@@ -88,40 +82,35 @@ pub fn later(
     other_reliabilities: &mut [u8],
     both: bool,
 ) -> LaterPlace
-    requires given_later { GivenLater first channel_real channel_imaginary costs parents view_real view_imaginary
-        memory ancestors dibits reliabilities others other_reliabilities (Asks both count) }
+    requires given_later { GivenLater first planes memory ancestors dibits reliabilities others other_reliabilities (Asks both count) }
     requires count_bound { count ≤ 256 }
-    ensures { LeavesLater first result channel_real channel_imaginary costs parents view_real view_imaginary
-        memory ancestors dibits reliabilities others other_reliabilities
-        (λ b a. a ≡ said_row symbol_real.now symbol_imaginary.now reliable.now count b) }
+    ensures { LeavesLater first result planes memory ancestors dibits reliabilities others other_reliabilities
+        (λ b a. a ≡ said_row symbols.now.real symbols.now.imaginary reliable.now count b) }
 {
-    let undecided = first.decided;
-    let second = first.second;
-    let undelivered = first.delivered;
     let mut flags = [false; FLAGS];
     let mut bytes = [0; BYTES];
     let decided = decide(
-        undecided,
-        symbol_real,
-        symbol_imaginary,
+        first.decided,
+        &symbols.real,
+        &symbols.imaginary,
         reliable,
         count,
-        channel_real,
-        channel_imaginary,
-        costs,
-        parents,
-        view_real,
-        view_imaginary,
+        &mut planes.channels.real,
+        &mut planes.channels.imaginary,
+        &mut planes.costs,
+        &mut planes.parents,
+        &mut planes.view.real,
+        &mut planes.view.imaginary,
         &mut flags,
         &mut bytes,
     );
-    if second.enabled {
+    if first.second.enabled {
         let mut other_flags = [false; FLAGS];
         let mut other_bytes = [0; BYTES];
-        let second_after = second::decide(
-            second,
-            symbol_real,
-            symbol_imaginary,
+        let second = second::decide(
+            first.second,
+            &symbols.real,
+            &symbols.imaginary,
             reliable,
             count,
             memory,
@@ -130,7 +119,7 @@ pub fn later(
             &mut other_bytes,
         );
         let delivered = tell(
-            undelivered,
+            first.delivered,
             &flags,
             &bytes,
             &other_flags,
@@ -144,12 +133,12 @@ pub fn later(
         );
         return LaterPlace {
             decided,
-            second: second_after,
+            second,
             delivered,
         };
     }
     let delivered = tell(
-        undelivered,
+        first.delivered,
         &flags,
         &bytes,
         &flags,
@@ -163,7 +152,7 @@ pub fn later(
     );
     LaterPlace {
         decided,
-        second,
+        second: first.second,
         delivered,
     }
 }

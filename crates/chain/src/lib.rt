@@ -19,6 +19,7 @@ use answers::soft::Records;
 use carrier::CarrierPlace;
 use channels::{CHANNELS, STATES};
 use clock::ClockPlace;
+use complex::Planes;
 use decisions::{Decided, DecisionsPlace};
 use delivery::{Delivered, DeliveryPlace};
 use equalizer::WEIGHTS;
@@ -40,6 +41,31 @@ pub struct ChainPlace {
     pub profile: i32,
     pub symbols: u64,
     pub locked: u64,
+}
+
+// What recovery holds between rows beside its place: the peak keeper's ring, the clock's, and the equalizer's
+// weights.
+#[derive(Clone, Copy)]
+pub struct RecoveryPlanes {
+    pub keeper: Planes<VALUES>,
+    pub clock: Planes<RING>,
+    pub weights: Planes<WEIGHTS>,
+}
+
+// What decisions hold between rows beside their place and soft records: the detector's channels, costs and
+// parents, and the view's ring.
+#[derive(Clone, Copy)]
+pub struct DecisionsPlanes {
+    pub channels: Planes<CHANNELS>,
+    pub costs: [f32; STATES],
+    pub parents: [u8; PARENTS],
+    pub view: Planes<POINTS>,
+}
+
+#[derive(Clone, Copy)]
+pub struct ChainPlanes {
+    pub recovery: RecoveryPlanes,
+    pub decisions: DecisionsPlanes,
 }
 
 // The place, the soft records, the second stream, and how many dibits are written of each.
@@ -81,46 +107,28 @@ fn delivery_place(p: ChainPlace) -> DeliveryPlace
 fn joined(r: RecoveryPlace, d: DecisionsPlace, t: DeliveryPlace) -> ChainPlace
     ensures { result ≡ joined_place r d t }
 {
-    let keeper = r.keeper;
-    let clock = r.clock;
-    let carrier = d.carrier;
-    let view = d.view;
     ChainPlace {
-        keeper,
-        clock,
-        carrier,
-        view,
+        keeper: r.keeper,
+        clock: r.clock,
+        carrier: d.carrier,
+        view: d.view,
         profile: t.profile,
         symbols: t.symbols,
         locked: t.locked,
     }
 }
 
-// Takes the first `made` values of a row. Of the dibits, and in pairs of the reliabilities, `written`
+// Takes the first `made` values of a row. Of the dibits, and in pairs of the reliabilities, `first.written`
 // stand there already; those that the values give are written after them, and the rest is untouched. The
 // second stream's go into rooms of their own where both are asked for. Where it is not enabled its memory
 // is not looked at and may be empty.
 // A row without values, of which high rates make many, ends the call at once, and one without symbols
 // after recovery.
 pub fn chain(
-    place: ChainPlace,
-    records: Records,
-    second: Second,
-    row_real: &[f32; ROW],
-    row_imaginary: &[f32; ROW],
+    first: Chained,
+    row: &Planes<ROW>,
     made: usize,
-    keeper_real: &mut [f32; VALUES],
-    keeper_imaginary: &mut [f32; VALUES],
-    clock_real: &mut [f32; RING],
-    clock_imaginary: &mut [f32; RING],
-    weight_real: &mut [f32; WEIGHTS],
-    weight_imaginary: &mut [f32; WEIGHTS],
-    channel_real: &mut [f32; CHANNELS],
-    channel_imaginary: &mut [f32; CHANNELS],
-    costs: &mut [f32; STATES],
-    parents: &mut [u8; PARENTS],
-    view_real: &mut [f32; POINTS],
-    view_imaginary: &mut [f32; POINTS],
+    planes: &mut ChainPlanes,
     memory: &mut [f32],
     ancestors: &mut [u8; PARENTS],
     dibits: &mut [u8],
@@ -128,87 +136,67 @@ pub fn chain(
     others: &mut [u8],
     other_reliabilities: &mut [u8],
     both: bool,
-    written: usize,
 ) -> Chained
-    requires given { Given (record { place = place; records = records; second = second; written = written })
-        keeper_real keeper_imaginary clock_real clock_imaginary
-        weight_real weight_imaginary channel_real channel_imaginary costs parents
-        view_real view_imaginary memory ancestors dibits reliabilities others other_reliabilities
-        (Asks both made) }
+    requires given { Given first planes memory ancestors dibits reliabilities others other_reliabilities (Asks both made) }
     requires made_bound { made ≤ 256 }
-    ensures { Leaves (record { place = place; records = records; second = second; written = written }) result
-        keeper_real keeper_imaginary clock_real clock_imaginary
-        weight_real weight_imaginary channel_real channel_imaginary costs parents
-        view_real view_imaginary memory ancestors dibits reliabilities others other_reliabilities
-        (λ b a. (a ≡ chain_of (values_of row_real.now row_imaginary.now made) b.state b.records b.room b.other)
+    ensures { Leaves first result planes memory ancestors dibits reliabilities others other_reliabilities
+        (λ b a. (a ≡ chain_of (values_of row.now.real row.now.imaginary made) b.state b.records b.room b.other)
         × Left made b.state b.room b.other a) }
 {
     if made == 0 {
-        return Chained {
-            place,
-            records,
-            second,
-            written,
-        };
+        return first;
     }
-    let keeper = place.keeper;
-    let clock = place.clock;
-    let first = RecoveryPlace { keeper, clock };
-    let mut symbol_real = [0.0; ROW];
-    let mut symbol_imaginary = [0.0; ROW];
+    let place = first.place;
+    let mut symbols = Planes {
+        real: [0.0; ROW],
+        imaginary: [0.0; ROW],
+    };
     let mut reliable = [false; ROW];
     let r = recover(
-        first,
-        row_real,
-        row_imaginary,
+        RecoveryPlace {
+            keeper: place.keeper,
+            clock: place.clock,
+        },
+        &row.real,
+        &row.imaginary,
         made,
-        keeper_real,
-        keeper_imaginary,
-        clock_real,
-        clock_imaginary,
-        weight_real,
-        weight_imaginary,
-        &mut symbol_real,
-        &mut symbol_imaginary,
+        &mut planes.recovery.keeper.real,
+        &mut planes.recovery.keeper.imaginary,
+        &mut planes.recovery.clock.real,
+        &mut planes.recovery.clock.imaginary,
+        &mut planes.recovery.weights.real,
+        &mut planes.recovery.weights.imaginary,
+        &mut symbols.real,
+        &mut symbols.imaginary,
         &mut reliable,
     );
-    let recovered = r.place;
-    let carrier = place.carrier;
-    let view = place.view;
-    let undecided = DecisionsPlace { carrier, view };
+    let undecided = DecisionsPlace {
+        carrier: place.carrier,
+        view: place.view,
+    };
     let undelivered = delivery_place(place);
     if r.count == 0 {
-        let quiet = joined(recovered, undecided, undelivered);
         return Chained {
-            place: quiet,
-            records,
-            second,
-            written,
+            place: joined(r.place, undecided, undelivered),
+            ..first
         };
     }
-    let before = LaterPlace {
-        decided: Decided {
-            place: undecided,
-            records,
-        },
-        second,
-        delivered: Delivered {
-            place: undelivered,
-            written,
-        },
-    };
     let l = later(
-        before,
-        &symbol_real,
-        &symbol_imaginary,
+        LaterPlace {
+            decided: Decided {
+                place: undecided,
+                records: first.records,
+            },
+            second: first.second,
+            delivered: Delivered {
+                place: undelivered,
+                written: first.written,
+            },
+        },
+        &symbols,
         &reliable,
         r.count,
-        channel_real,
-        channel_imaginary,
-        costs,
-        parents,
-        view_real,
-        view_imaginary,
+        &mut planes.decisions,
         memory,
         ancestors,
         dibits,
@@ -217,17 +205,10 @@ pub fn chain(
         other_reliabilities,
         both,
     );
-    let d = l.decided;
-    let t = l.delivered;
-    let second_after = l.second;
-    let decided = d.place;
-    let delivered = t.place;
-    let after = joined(recovered, decided, delivered);
-    let records_after = d.records;
     Chained {
-        place: after,
-        records: records_after,
-        second: second_after,
-        written: t.written,
+        place: joined(r.place, l.decided.place, l.delivered.place),
+        records: l.decided.records,
+        second: l.second,
+        written: l.delivered.written,
     }
 }

@@ -21,6 +21,13 @@ pub struct Complex64 {
     pub imaginary: f64,
 }
 
+// Complex values, real parts and imaginary parts apart.
+#[derive(Clone, Copy)]
+pub struct Planes<const N: usize> {
+    pub real: [f32; N],
+    pub imaginary: [f32; N],
+}
+
 pub fn zero() -> Complex32
     ensures { result ≡ zero_pair }
 {

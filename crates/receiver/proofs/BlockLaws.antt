@@ -45,7 +45,7 @@ Ready r table xs o = ReadyBlock r table xs (dibit_room o) (reliability_room o)
 
 -- ---- the run
 pub run_asks : (r : Receiver) (table xs memory : List Float) (o : Rooms) → Ready r table xs o → NoneLent o → (r.second.enabled ≡ true → length memory ≡ 9280) → length r.ancestors ≡ 2048
-    → length r.keeper_real ≡ 64 → length r.keeper_imaginary ≡ 64 → length r.channel_real ≡ 256 → length r.channel_imaginary ≡ 256 → length r.costs ≡ 64 → length r.parents ≡ 2048
+    → length r.planes.recovery.keeper.real ≡ 64 → length r.planes.recovery.keeper.imaginary ≡ 64 → length r.planes.decisions.channels.real ≡ 256 → length r.planes.decisions.channels.imaginary ≡ 256 → length r.planes.decisions.costs ≡ 64 → length r.planes.decisions.parents ≡ 2048
     → ReadyRun o.both table xs (start_with r memory o)
 run_asks r table xs memory o k none sized an kr ki hr hi co pa =
     let f = k.fits in
@@ -106,7 +106,7 @@ run_admitted conjugated r table xs memory o w left k g =
     let v = l.ranged.decisions in
     let y = g.next.admitted in
     let x = receiver_with (r.total + count_of xs) w left in
-    fits_to x.total x.front x.chain x.second x.parents x.ancestors (record {
+    fits_to x.total x.front x.chain x.second x.planes.decisions.parents x.ancestors (record {
       total_in = k.total_in;
       index_in = omega arith;
       locked_in = l.ranged.delivery.locked;

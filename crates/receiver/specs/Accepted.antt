@@ -23,7 +23,7 @@ use Rattle.checks.specs.Checks.{count_refused, room_refused, Judged, judged_now,
 use Rattle.checks.specs.Ways.{counted}
 
 pub record ReadyBlock (r : Receiver) (table xs : List Float) (dibits reliabilities : ℕ) : Type 0 where
-  pub fits : Fits r.total r.front r.chain r.second r.parents r.ancestors
+  pub fits : Fits r.total r.front r.chain r.second r.planes.decisions.parents r.ancestors
   pub table_in : 32 * r.front.resampler.arm ≤ length table
   pub total_in : r.total + count_of xs ≤ 2 ^ 52
   pub numbers : fit.Numbers xs
@@ -65,7 +65,7 @@ ready_block r table xs dibits reliabilities h =
     let q = counted r.total (length xs) (count_refused r.total (length xs)) refl z.2 in
     let p = or_false (ltb dibits (2 * count_of xs + 4)) (ltb reliabilities (4 * count_of xs + 8)) z.3 in
     record {
-      fits = fits_from r.total r.front r.chain r.second r.parents r.ancestors (not_false (admitted_of r) z.0);
+      fits = fits_from r.total r.front r.chain r.second r.planes.decisions.parents r.ancestors (not_false (admitted_of r) z.0);
       table_in = ltb-false (length table) (32 * r.front.resampler.arm) z.1;
       total_in = q.total_in;
       numbers = numbers_of xs q.even (not_false (finite_of xs) z.4);

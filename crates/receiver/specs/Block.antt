@@ -2,7 +2,7 @@
 use Rattle.std.specs.Prelude.{◌≡◌, ℕ, ◌+◌, min, Bool, true, false, cond, List, [], eqb, length, Float}
 use Rattle.oscillator.specs.Oscillator.{conjugated_of}
 use Rattle.second.specs.Second.{second_of, joined_of}
-use Rattle.chain.specs.Chain.{state_of}
+use Rattle.chain.specs.Chain.{state_of, planes_now}
 use Rattle.checks.specs.declared.refusal.Verdict.{Verdict}
 use Rattle.receiver_state.specs.declared.state.Receiver.{Receiver}
 use Rattle.receiver_state.specs.declared.state.Snapshot.{Snapshot}
@@ -52,10 +52,9 @@ reliability_room o = room_of o.both (length o.reliabilities) (length o.other_rel
 -- with these floats in the place of the second stream's
 abbrev pub start_with : Receiver → List Float → Rooms → Whole
 start_with r memory o = record {
-  rung = record { place = r.front; real = r.ring_real; imaginary = r.ring_imaginary };
+  rung = record { place = r.front; real = r.ring.real; imaginary = r.ring.imaginary };
   lent = record {
-    state = state_of r.chain r.keeper_real r.keeper_imaginary r.clock_real r.clock_imaginary r.weight_real r.weight_imaginary r.channel_real r.channel_imaginary r.costs r.parents r.view_real r.view_imaginary
-        (second_of r.second memory r.ancestors);
+    state = state_of r.chain r.planes (second_of r.second memory r.ancestors);
     records = r.records.slots;
     room = record { dibits = o.dibits; reliabilities = o.reliabilities; written = 0 };
     other = record { dibits = o.others; reliabilities = o.other_reliabilities; written = 0 };
@@ -72,20 +71,8 @@ receiver_with total w memory = record {
   front = w.rung.place;
   chain = w.lent.state.place;
   records = record { slots = w.lent.records };
-  ring_real = w.rung.real;
-  ring_imaginary = w.rung.imaginary;
-  keeper_real = w.lent.state.keeper.real;
-  keeper_imaginary = w.lent.state.keeper.imaginary;
-  clock_real = w.lent.state.clock.real;
-  clock_imaginary = w.lent.state.clock.imaginary;
-  weight_real = w.lent.state.weights.real;
-  weight_imaginary = w.lent.state.weights.imaginary;
-  channel_real = w.lent.state.channels.real;
-  channel_imaginary = w.lent.state.channels.imaginary;
-  costs = w.lent.state.costs;
-  parents = w.lent.state.parents;
-  view_real = w.lent.state.view.real;
-  view_imaginary = w.lent.state.view.imaginary;
+  ring = record { real = w.rung.real; imaginary = w.rung.imaginary };
+  planes = planes_now w.lent.state;
   second = record { enabled = w.lent.state.second.enabled; carrier = w.lent.state.second.carrier; records = record { slots = w.lent.state.second.records } };
   memory = memory;
   ancestors = w.lent.state.second.parents;

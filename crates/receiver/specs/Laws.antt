@@ -31,7 +31,7 @@ unfolding fresh_receiver zero_second decimator.fresh_of resampler.fresh_of
 fresh_fits rate offset profile d k =
     let r = fresh_receiver (fresh_front rate offset d) profile in
     let a = k.decimation_low in
-    fits_to r.total r.front r.chain r.second r.parents r.ancestors (record {
+    fits_to r.total r.front r.chain r.second r.planes.decisions.parents r.ancestors (record {
       total_in = omega arith;
       index_in = omega arith;
       locked_in = omega arith;

@@ -25,7 +25,7 @@ shown_of s = record { number = 0; count = s.reading.count; error = s.reading.err
 abbrev pub reading_by : ℕ → Receiver → List Float → Reading
 reading_by number r output =
     cond (eqb number 0)
-    (shown_of (read_of (view_of r.chain.view r.view_real r.view_imaginary) output))
+    (shown_of (read_of (view_of r.chain.view r.planes.decisions.view.real r.planes.decisions.view.imaginary) output))
     (record { number = number; count = 0; error = of_bits binary64 0; output = output })
 
 unfoldable pub reading_of : Receiver → List Float → Reading

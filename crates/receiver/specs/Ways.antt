@@ -50,11 +50,11 @@ module _ (rate offset : Float) (profile : ℤ) (table : List Float) where
 -- an admitted state's view can be read
 pub view_ranges : (r : Receiver) (b : Bool) → b ≡ admitted_of r → b ≡ true → (r.chain.view.head < 1024) × (r.chain.view.count ≤ 1024)
 view_ranges r b e t =
-    let k = fits_from r.total r.front r.chain r.second r.parents r.ancestors (sym e ∙ t) in
+    let k = fits_from r.total r.front r.chain r.second r.planes.decisions.parents r.ancestors (sym e ∙ t) in
     (k.chain_fits_lem.view.head, k.chain_fits_lem.view.count)
 
 pub reading_accepted : (r : Receiver) (output after : List Float) (p : Shown) (b : Bool) → b ≡ admitted_of r → b ≡ true
-    → ◌≡◌ {A = Read} (record { reading = p; output = after }) (read_of (view_of r.chain.view r.view_real r.view_imaginary) output)
+    → ◌≡◌ {A = Read} (record { reading = p; output = after }) (read_of (view_of r.chain.view r.planes.decisions.view.real r.planes.decisions.view.imaginary) output)
     → points_now (record { verdict = Accepted; count = p.count; error = p.error }) after ≡ reading_of r output
 unfolding reading_of
 reading_accepted r output after p b e t h = rw (← e, t, ← h)

@@ -21,7 +21,7 @@ pub fn enable(r: Receiver) -> Enabled
     let front = r.front;
     let chain = r.chain;
     let second = r.second;
-    let parents = r.parents;
+    let parents = r.planes.decisions.parents;
     let ancestors = r.ancestors;
     if is_admitted(r.total, front, chain, second, &parents, &ancestors) {
         if second.enabled {

@@ -21,13 +21,12 @@ pub fn read(r: Receiver, output: &mut [f32]) -> Points
     let front = r.front;
     let chain = r.chain;
     let second = r.second;
-    let parents = r.parents;
+    let parents = r.planes.decisions.parents;
     let ancestors = r.ancestors;
-    let real = r.view_real;
-    let imaginary = r.view_imaginary;
+    let points = r.planes.decisions.view;
     if is_admitted(r.total, front, chain, second, &parents, &ancestors) {
         let view = chain.view;
-        let p = signal::read(view, &real, &imaginary, output);
+        let p = signal::read(view, &points.real, &points.imaginary, output);
         return Points {
             verdict: Verdict::Accepted,
             count: p.count,

@@ -5,6 +5,7 @@ ghost use Rattle.receiver.specs.Admitted.{admitted_of};
 ghost use Rattle.checks.specs.Refusal.{number_of};
 
 use super::block::Block;
+use chain::Chained;
 use checks::block::judged;
 use checks::refusal::{Verdict, is_accepted};
 use oscillator::is_conjugated;
@@ -61,20 +62,8 @@ pub fn take_any(
     let chain = r.chain;
     let records = r.records;
     let second = r.second;
-    let mut ring_real = r.ring_real;
-    let mut ring_imaginary = r.ring_imaginary;
-    let mut keeper_real = r.keeper_real;
-    let mut keeper_imaginary = r.keeper_imaginary;
-    let mut clock_real = r.clock_real;
-    let mut clock_imaginary = r.clock_imaginary;
-    let mut weight_real = r.weight_real;
-    let mut weight_imaginary = r.weight_imaginary;
-    let mut channel_real = r.channel_real;
-    let mut channel_imaginary = r.channel_imaginary;
-    let mut costs = r.costs;
-    let mut parents = r.parents;
-    let mut view_real = r.view_real;
-    let mut view_imaginary = r.view_imaginary;
+    let mut ring = r.ring;
+    let mut planes = r.planes;
     let mut ancestors = r.ancestors;
     let mut memory = r.memory;
     let c = judged(
@@ -82,7 +71,7 @@ pub fn take_any(
         front,
         chain,
         second,
-        &parents,
+        &planes.decisions.parents,
         &ancestors,
         samples,
         table.len(),
@@ -93,31 +82,21 @@ pub fn take_any(
     if is_accepted(verdict) {
         let first = Running {
             front,
-            chain,
-            records,
-            second,
+            chained: Chained {
+                place: chain,
+                records,
+                second,
+                written: 0,
+            },
             from: 0,
-            written: 0,
         };
         let t = run(
             first,
             is_conjugated(chain.profile),
             samples,
             table,
-            &mut ring_real,
-            &mut ring_imaginary,
-            &mut keeper_real,
-            &mut keeper_imaginary,
-            &mut clock_real,
-            &mut clock_imaginary,
-            &mut weight_real,
-            &mut weight_imaginary,
-            &mut channel_real,
-            &mut channel_imaginary,
-            &mut costs,
-            &mut parents,
-            &mut view_real,
-            &mut view_imaginary,
+            &mut ring,
+            &mut planes,
             &mut memory,
             &mut ancestors,
             &mut *dibits,
@@ -126,37 +105,22 @@ pub fn take_any(
             &mut *other_reliabilities,
             both,
         );
-        let front_after = t.front;
-        let chain_after = t.chain;
-        let records_after = t.records;
-        let second_after = t.second;
-        let snapshot = snapshot_of(chain_after);
+        let after = t.chained;
+        let snapshot = snapshot_of(after.place);
         let receiver = Receiver {
             total: r.total + ((samples.len() / 2) as u64),
-            front: front_after,
-            chain: chain_after,
-            records: records_after,
-            ring_real,
-            ring_imaginary,
-            keeper_real,
-            keeper_imaginary,
-            clock_real,
-            clock_imaginary,
-            weight_real,
-            weight_imaginary,
-            channel_real,
-            channel_imaginary,
-            costs,
-            parents,
-            view_real,
-            view_imaginary,
-            second: second_after,
+            front: t.front,
+            chain: after.place,
+            records: after.records,
+            ring,
+            planes,
+            second: after.second,
             memory,
             ancestors,
         };
         return Block {
             verdict: Verdict::Accepted,
-            count: t.written,
+            count: after.written,
             overload: c.overload,
             snapshot,
             receiver,
@@ -167,20 +131,8 @@ pub fn take_any(
         front,
         chain,
         records,
-        ring_real,
-        ring_imaginary,
-        keeper_real,
-        keeper_imaginary,
-        clock_real,
-        clock_imaginary,
-        weight_real,
-        weight_imaginary,
-        channel_real,
-        channel_imaginary,
-        costs,
-        parents,
-        view_real,
-        view_imaginary,
+        ring,
+        planes,
         second,
         memory,
         ancestors,

@@ -3,6 +3,7 @@ use Rattle.std.specs.Prelude.{ℕ, Bool, false, cond, List, ℤ, pos, replicate,
 use Rattle.std.specs.Float.{binary64}
 use Rattle.std.specs.Float.Ieee.{of_bits, mul, div}
 use Rattle.numbers.specs.Constants.{zero32, full_turn, zero64}
+use Rattle.complex.specs.declared.Planes.{Planes}
 use Rattle.signal.specs.Signal as signal
 use Rattle.peak.specs.Peak as peak
 use Rattle.decimator.specs.Decimator as decimator
@@ -19,6 +20,7 @@ use Rattle.carrier.specs.declared.CarrierPlace.{CarrierPlace}
 use Rattle.second.specs.declared.Second.{Second}
 use Rattle.front.specs.declared.FrontPlace.{FrontPlace}
 use Rattle.chain.specs.declared.ChainPlace.{ChainPlace}
+use Rattle.chain.specs.declared.ChainPlanes.{ChainPlanes}
 use Rattle.receiver_state.specs.declared.state.Receiver.{Receiver}
 use Rattle.receiver_state.specs.declared.state.Snapshot.{Snapshot}
 
@@ -26,6 +28,17 @@ use Rattle.receiver_state.specs.declared.state.Snapshot.{Snapshot}
 
 abbrev pub zeroes : ℕ → List Float
 zeroes n = replicate n zero32
+
+-- these real parts, and imaginary parts of zero
+abbrev pub with_real : (n : ℕ) → List Float → Planes n
+with_real n real = record { real = real; imaginary = zeroes n }
+
+-- all zero but for the weights and the channels
+abbrev pub planes_with : List Float → List Float → ChainPlanes
+planes_with weights channels = record {
+  recovery = record { keeper = with_real 64 (zeroes 64); clock = with_real 256 (zeroes 256); weights = with_real 21 weights };
+  decisions = record { channels = with_real 256 channels; costs = zeroes 64; parents = replicate 2048 0; view = with_real 1024 (zeroes 1024) };
+}
 
 unfoldable pub zero_front : FrontPlace
 zero_front = record {
@@ -64,20 +77,8 @@ zero_receiver = record {
   front = zero_front;
   chain = zero_chain;
   records = no_records;
-  ring_real = zeroes 592;
-  ring_imaginary = zeroes 592;
-  keeper_real = zeroes 64;
-  keeper_imaginary = zeroes 64;
-  clock_real = zeroes 256;
-  clock_imaginary = zeroes 256;
-  weight_real = zeroes 21;
-  weight_imaginary = zeroes 21;
-  channel_real = zeroes 256;
-  channel_imaginary = zeroes 256;
-  costs = zeroes 64;
-  parents = replicate 2048 0;
-  view_real = zeroes 1024;
-  view_imaginary = zeroes 1024;
+  ring = with_real 592 (zeroes 592);
+  planes = planes_with (zeroes 21) (zeroes 256);
   second = zero_second;
   memory = zeroes 9280;
   ancestors = replicate 2048 0;
@@ -94,20 +95,8 @@ fresh_receiver front profile = record {
   front = front;
   chain = chain.fresh_place profile;
   records = sequence.fresh_records;
-  ring_real = zeroes 592;
-  ring_imaginary = zeroes 592;
-  keeper_real = zeroes 64;
-  keeper_imaginary = zeroes 64;
-  clock_real = zeroes 256;
-  clock_imaginary = zeroes 256;
-  weight_real = equalizer.fresh_real;
-  weight_imaginary = zeroes 21;
-  channel_real = sequence.fresh_real;
-  channel_imaginary = zeroes 256;
-  costs = zeroes 64;
-  parents = replicate 2048 0;
-  view_real = zeroes 1024;
-  view_imaginary = zeroes 1024;
+  ring = with_real 592 (zeroes 592);
+  planes = planes_with equalizer.fresh_real sequence.fresh_real;
   second = zero_second;
   memory = zeroes 9280;
   ancestors = replicate 2048 0;

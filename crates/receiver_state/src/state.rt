@@ -6,9 +6,10 @@ use answers::soft::{Records, Slot, Soft};
 use answers::walk::Previous;
 use answers::{PARENTS, STEPS};
 use carrier::{CarrierPlace, Loop};
-use chain::ChainPlace;
+use chain::{ChainPlace, ChainPlanes, DecisionsPlanes, RecoveryPlanes};
 use channels::{CHANNELS, STATES};
 use clock::ClockPlace;
+use complex::Planes;
 use equalizer::WEIGHTS;
 use filter::RING;
 use front::FrontPlace;
@@ -20,8 +21,7 @@ use second::{MEMORY, Second};
 use sequence::step::DetectorPlace;
 use signal::POINTS;
 
-// Total is how many samples were taken. The planes: the resampler's ring, the peak keeper's, the
-// clock's, the equalizer's weights, the detector's channels, costs and parents, the view's ring. The
+// Total is how many samples were taken. The ring is the resampler's, and the planes are the chain's. The
 // second tracker has its memory and its parents, the ancestors; while it is not enabled nothing of it is
 // looked at, and all of it is handed back as given.
 #[derive(Clone, Copy)]
@@ -30,20 +30,8 @@ pub struct Receiver {
     pub front: FrontPlace,
     pub chain: ChainPlace,
     pub records: Records,
-    pub ring_real: [f32; PLACES],
-    pub ring_imaginary: [f32; PLACES],
-    pub keeper_real: [f32; VALUES],
-    pub keeper_imaginary: [f32; VALUES],
-    pub clock_real: [f32; RING],
-    pub clock_imaginary: [f32; RING],
-    pub weight_real: [f32; WEIGHTS],
-    pub weight_imaginary: [f32; WEIGHTS],
-    pub channel_real: [f32; CHANNELS],
-    pub channel_imaginary: [f32; CHANNELS],
-    pub costs: [f32; STATES],
-    pub parents: [u8; PARENTS],
-    pub view_real: [f32; POINTS],
-    pub view_imaginary: [f32; POINTS],
+    pub ring: Planes<PLACES>,
+    pub planes: ChainPlanes,
     pub second: Second,
     pub memory: [f32; MEMORY],
     pub ancestors: [u8; PARENTS],
@@ -148,34 +136,49 @@ fn zero_second() -> Second
 pub fn zero() -> Receiver
     ensures { result ≡ zero_receiver }
 {
-    let front = zero_front();
-    let chain = zero_chain();
-    let second = zero_second();
     let slot = Slot {
         soft: Soft::Unrecorded,
     };
     Receiver {
         total: 0,
-        front,
-        chain,
+        front: zero_front(),
+        chain: zero_chain(),
         records: Records {
             slots: [slot; STEPS],
         },
-        ring_real: [0.0; PLACES],
-        ring_imaginary: [0.0; PLACES],
-        keeper_real: [0.0; VALUES],
-        keeper_imaginary: [0.0; VALUES],
-        clock_real: [0.0; RING],
-        clock_imaginary: [0.0; RING],
-        weight_real: [0.0; WEIGHTS],
-        weight_imaginary: [0.0; WEIGHTS],
-        channel_real: [0.0; CHANNELS],
-        channel_imaginary: [0.0; CHANNELS],
-        costs: [0.0; STATES],
-        parents: [0; PARENTS],
-        view_real: [0.0; POINTS],
-        view_imaginary: [0.0; POINTS],
-        second,
+        ring: Planes {
+            real: [0.0; PLACES],
+            imaginary: [0.0; PLACES],
+        },
+        planes: ChainPlanes {
+            recovery: RecoveryPlanes {
+                keeper: Planes {
+                    real: [0.0; VALUES],
+                    imaginary: [0.0; VALUES],
+                },
+                clock: Planes {
+                    real: [0.0; RING],
+                    imaginary: [0.0; RING],
+                },
+                weights: Planes {
+                    real: [0.0; WEIGHTS],
+                    imaginary: [0.0; WEIGHTS],
+                },
+            },
+            decisions: DecisionsPlanes {
+                channels: Planes {
+                    real: [0.0; CHANNELS],
+                    imaginary: [0.0; CHANNELS],
+                },
+                costs: [0.0; STATES],
+                parents: [0; PARENTS],
+                view: Planes {
+                    real: [0.0; POINTS],
+                    imaginary: [0.0; POINTS],
+                },
+            },
+        },
+        second: zero_second(),
         memory: [0.0; MEMORY],
         ancestors: [0; PARENTS],
     }
@@ -184,31 +187,44 @@ pub fn zero() -> Receiver
 pub fn fresh(front: FrontPlace, profile: i32) -> Receiver
     ensures { result ≡ fresh_receiver front profile }
 {
-    let chain = chain::fresh(profile);
-    let records = sequence::step::fresh_records();
-    let weights = equalizer::fresh_real();
-    let channels = sequence::step::fresh_channels();
-    let second = zero_second();
     Receiver {
         total: 0,
         front,
-        chain,
-        records,
-        ring_real: [0.0; PLACES],
-        ring_imaginary: [0.0; PLACES],
-        keeper_real: [0.0; VALUES],
-        keeper_imaginary: [0.0; VALUES],
-        clock_real: [0.0; RING],
-        clock_imaginary: [0.0; RING],
-        weight_real: weights,
-        weight_imaginary: [0.0; WEIGHTS],
-        channel_real: channels,
-        channel_imaginary: [0.0; CHANNELS],
-        costs: [0.0; STATES],
-        parents: [0; PARENTS],
-        view_real: [0.0; POINTS],
-        view_imaginary: [0.0; POINTS],
-        second,
+        chain: chain::fresh(profile),
+        records: sequence::step::fresh_records(),
+        ring: Planes {
+            real: [0.0; PLACES],
+            imaginary: [0.0; PLACES],
+        },
+        planes: ChainPlanes {
+            recovery: RecoveryPlanes {
+                keeper: Planes {
+                    real: [0.0; VALUES],
+                    imaginary: [0.0; VALUES],
+                },
+                clock: Planes {
+                    real: [0.0; RING],
+                    imaginary: [0.0; RING],
+                },
+                weights: Planes {
+                    real: equalizer::fresh_real(),
+                    imaginary: [0.0; WEIGHTS],
+                },
+            },
+            decisions: DecisionsPlanes {
+                channels: Planes {
+                    real: sequence::step::fresh_channels(),
+                    imaginary: [0.0; CHANNELS],
+                },
+                costs: [0.0; STATES],
+                parents: [0; PARENTS],
+                view: Planes {
+                    real: [0.0; POINTS],
+                    imaginary: [0.0; POINTS],
+                },
+            },
+        },
+        second: zero_second(),
         memory: [0.0; MEMORY],
         ancestors: [0; PARENTS],
     }

@@ -1,10 +1,13 @@
 -- A run over a block's samples: the front over all of them gives values, the chain over all values gives dibits. Definitions only.
 use Rattle.std.specs.Prelude.{ℕ, ◌+◌, ◌*◌, ◌/◌, ◌^◌, ◌≤◌, ◌≡◌, Bool, List, [], length, Float}
+use Rattle.std.specs.Borrow.{MutBor}
+use denote.Triple.Both.{Both}
 use Rattle.front.specs.Front as front
 use Rattle.front.specs.Admitted as fit
 use Rattle.laws.specs.Lent.{NowMut, LendsMut}
-use Rattle.second.specs.Second.{second_of}
-use Rattle.chain.specs.Chain.{state_of}
+use Rattle.complex.specs.declared.Planes.{Planes}
+use Rattle.chain.specs.declared.ChainPlanes.{ChainPlanes}
+use Rattle.chain.specs.Lends.{lent_now}
 use Rattle.chain.specs.Rows.{Lent, chain_of}
 use Rattle.chain.specs.Ranges.{Asks}
 use Rattle.chain.specs.RowLaws.{Left}
@@ -16,65 +19,25 @@ pub record Whole : Type 0 where
   pub lent : Lent
   pub from : ℕ
 
-abbrev pub whole_now : Running → List Float → List Float → List Float → List Float → List Float → List Float → List Float → List Float → List Float → List Float → List Float → List ℕ → List Float → List Float → List Float → List ℕ → List ℕ → List ℕ → List ℕ → List ℕ → Whole
-whole_now t rr ri kr ki tr ti wr wi hr hi costs parents vr vi memory ancestors ds rs es qs = record {
-  rung = record { place = t.front; real = rr; imaginary = ri };
-  lent = record {
-    state = state_of t.chain kr ki tr ti wr wi hr hi costs parents vr vi (second_of t.second memory ancestors);
-    records = t.records.slots;
-    room = record { dibits = ds; reliabilities = rs; written = t.written };
-    other = record { dibits = es; reliabilities = qs; written = t.written };
-  };
+abbrev pub whole_now : Running → Planes 592 → ChainPlanes → List Float → List ℕ → List ℕ → List ℕ → List ℕ → List ℕ → Whole
+whole_now t ring planes memory ancestors ds rs es qs = record {
+  rung = record { place = t.front; real = ring.real; imaginary = ring.imaginary };
+  lent = lent_now t.chained planes memory ancestors ds rs es qs;
   from = t.from;
 }
 
 -- the same by the names of the run's parameters, as it is given and as it is left: each is a type that computes to the clause written out
-module _ (t : Running) (ring_real ring_imaginary : NowMut Float) (keeper_real keeper_imaginary clock_real clock_imaginary weight_real weight_imaginary : NowMut Float)
-    (channel_real channel_imaginary costs : NowMut Float) (parents : NowMut ℕ) (view_real view_imaginary memory : NowMut Float) (ancestors : NowMut ℕ)
-    (dibits reliabilities others other_reliabilities : NowMut ℕ) where
+module _ (t : Running) (ring : MutBor (Planes 592)) (planes : MutBor ChainPlanes) (memory : NowMut Float) (ancestors dibits reliabilities others other_reliabilities : NowMut ℕ) where
   abbrev pub Given : (Whole → Type 0) → Type 0
-  Given P =
-      P
-      (whole_now t
-      ring_real.now ring_imaginary.now
-      keeper_real.now keeper_imaginary.now
-      clock_real.now clock_imaginary.now
-      weight_real.now weight_imaginary.now
-      channel_real.now channel_imaginary.now
-      costs.now parents.now
-      view_real.now view_imaginary.now
-      memory.now ancestors.now
-      dibits.now reliabilities.now
-      others.now other_reliabilities.now)
+  Given P = P (whole_now t ring.now planes.now memory.now ancestors.now dibits.now reliabilities.now others.now other_reliabilities.now)
 
-module _ (t r : Running) (ring_real ring_imaginary : LendsMut Float) (keeper_real keeper_imaginary clock_real clock_imaginary weight_real weight_imaginary : LendsMut Float)
-    (channel_real channel_imaginary costs : LendsMut Float) (parents : LendsMut ℕ) (view_real view_imaginary memory : LendsMut Float) (ancestors : LendsMut ℕ)
-    (dibits reliabilities others other_reliabilities : LendsMut ℕ) where
+module _ (t r : Running) (ring : Both (MutBor (Planes 592)) (MutBor (Planes 592))) (planes : Both (MutBor ChainPlanes) (MutBor ChainPlanes)) (memory : LendsMut Float)
+    (ancestors dibits reliabilities others other_reliabilities : LendsMut ℕ) where
   abbrev pub Leaves : (Whole → Whole → Type 0) → Type 0
   Leaves Q =
       Q
-      (whole_now t
-      ring_real.entry.now ring_imaginary.entry.now
-      keeper_real.entry.now keeper_imaginary.entry.now
-      clock_real.entry.now clock_imaginary.entry.now
-      weight_real.entry.now weight_imaginary.entry.now
-      channel_real.entry.now channel_imaginary.entry.now
-      costs.entry.now parents.entry.now
-      view_real.entry.now view_imaginary.entry.now
-      memory.entry.now ancestors.entry.now
-      dibits.entry.now reliabilities.entry.now
-      others.entry.now other_reliabilities.entry.now)
-      (whole_now r
-      ring_real.exit.now ring_imaginary.exit.now
-      keeper_real.exit.now keeper_imaginary.exit.now
-      clock_real.exit.now clock_imaginary.exit.now
-      weight_real.exit.now weight_imaginary.exit.now
-      channel_real.exit.now channel_imaginary.exit.now
-      costs.exit.now parents.exit.now
-      view_real.exit.now view_imaginary.exit.now
-      memory.exit.now ancestors.exit.now
-      dibits.exit.now reliabilities.exit.now
-      others.exit.now other_reliabilities.exit.now)
+      (whole_now t ring.entry.now planes.entry.now memory.entry.now ancestors.entry.now dibits.entry.now reliabilities.entry.now others.entry.now other_reliabilities.entry.now)
+      (whole_now r ring.exit.now planes.exit.now memory.exit.now ancestors.exit.now dibits.exit.now reliabilities.exit.now others.exit.now other_reliabilities.exit.now)
 
 module _ (conjugated : Bool) (table xs : List Float) (w : Whole) where
   -- the front after n samples, and its values

@@ -15,18 +15,14 @@ recover-r-requires c =
 pub returns-then-r-eq0 : goal.returns-then-r-eq0
 returns-then-r-eq0 c =
     let asked = recover_asks _ _ _ c.requires.given.state.recovery c.requires.made_bound refl refl refl refl in
-    chain_quiet _ _ _ _ _ refl _ c.recover-r.ensures.0 asked c.requires.given.state _ _ c.delivery_place-undelivered.ensures c.if-r-eq0.true c.joined-quiet.ensures
+    chain_quiet _ _ _ _ _ refl _ c.recover-r.ensures.0 asked c.requires.given.state _ _ c.delivery_place-undelivered.ensures c.if-r-eq0.true c.joined.ensures
 
 pub later-l-requires : goal.later-l-requires
 later-l-requires c =
     let b = later_asks _ _ _ _ _ refl _ c.recover-r.ensures.0 _ _ c.delivery_place-undelivered.ensures c.requires.made_bound c.requires.given in
     record { given_later = b.0; count_bound = b.1 }
 
-pub shape_of-memory : goal.shape_of-memory
-shape_of-memory c =
-    c.memory-1.given
-
 pub returns : goal.returns
 returns c =
     let asked = recover_asks _ _ _ c.requires.given.state.recovery c.requires.made_bound refl refl refl refl in
-    chain_is _ _ _ _ _ refl _ c.recover-r.ensures.0 asked c.requires.given.state _ _ c.delivery_place-undelivered.ensures _ c.later-l.ensures c.joined-after.ensures
+    chain_is _ _ _ _ _ refl _ c.recover-r.ensures.0 asked c.requires.given.state _ _ c.delivery_place-undelivered.ensures _ c.later-l.ensures c.joined-2.ensures

@@ -21,29 +21,29 @@ abbrev Start : Type 0
 Start = lts.Start tie.the-claims reads.Pre reads.Post tie.handed_clauses
 
 -- the planes of the state handed in have the lengths of their types
-keeper_real : (entry : Start) → length entry.args.r.keeper_real ≡ 64
-keeper_real entry = search (rules, entry.well_formed.0.1.1.1.1.1.1.1.1.0)
+keeper_real : (entry : Start) → length entry.args.r.planes.recovery.keeper.real ≡ 64
+keeper_real entry = search rules
 
-keeper_imaginary : (entry : Start) → length entry.args.r.keeper_imaginary ≡ 64
-keeper_imaginary entry = search (rules, entry.well_formed.0.1.1.1.1.1.1.1.1.1.0)
+keeper_imaginary : (entry : Start) → length entry.args.r.planes.recovery.keeper.imaginary ≡ 64
+keeper_imaginary entry = search rules
 
-channel_real : (entry : Start) → length entry.args.r.channel_real ≡ 256
-channel_real entry = search (rules, entry.well_formed.0.1.1.1.1.1.1.1.1.1.1.1.1.1.1.0)
+channel_real : (entry : Start) → length entry.args.r.planes.decisions.channels.real ≡ 256
+channel_real entry = search rules
 
-channel_imaginary : (entry : Start) → length entry.args.r.channel_imaginary ≡ 256
-channel_imaginary entry = search (rules, entry.well_formed.0.1.1.1.1.1.1.1.1.1.1.1.1.1.1.1.0)
+channel_imaginary : (entry : Start) → length entry.args.r.planes.decisions.channels.imaginary ≡ 256
+channel_imaginary entry = search rules
 
-costs : (entry : Start) → length entry.args.r.costs ≡ 64
-costs entry = search (rules, entry.well_formed.0.1.1.1.1.1.1.1.1.1.1.1.1.1.1.1.1.0)
+costs : (entry : Start) → length entry.args.r.planes.decisions.costs ≡ 64
+costs entry = search rules
 
-parents : (entry : Start) → length entry.args.r.parents ≡ 2048
-parents entry = search (rules, entry.well_formed.0.1.1.1.1.1.1.1.1.1.1.1.1.1.1.1.1.1.0)
+parents : (entry : Start) → length entry.args.r.planes.decisions.parents ≡ 2048
+parents entry = search rules
 
 memory : (entry : Start) → length entry.args.r.memory ≡ 9280
-memory entry = search (rules, entry.well_formed.0.1.1.1.1.1.1.1.1.1.1.1.1.1.1.1.1.1.1.1.1.1.0)
+memory entry = search rules
 
 ancestors : (entry : Start) → length entry.args.r.ancestors ≡ 2048
-ancestors entry = search (rules, entry.well_formed.0.1.1.1.1.1.1.1.1.1.1.1.1.1.1.1.1.1.1.1.1.1.1)
+ancestors entry = search rules
 
 -- the rooms that it is lent
 abbrev rooms : Start → Rooms
@@ -84,8 +84,8 @@ returns-then-is_accepted c =
     let judged = judged_rooms c.args.r _ _ (rooms entry) c.judged-c.result _ _ c.room.ensures c.room-2.ensures c.judged-c.ensures in
     let fits : SFits w32 c.args.r.chain.profile = search (rules, c.struct_told-1.given) in
     let conjugated = rw (to_z-of_z fits) at c.is_conjugated.ensures in
-    let ended = ended_both c.args.r _ _ c.judged-c.result.overload (rooms entry) _ (whole_now c.run-t.result _ _ _ _ _ _ _ _ _ _ _ _ _ _ _ _ _ _ _ _) _ conjugated c.run-t.ensures.0 (split_join _ c.memory-then-is_accepted-2-1.given) in
-    let b = taken_is c.args.r _ _ (rooms entry) c.judged-c.result _ judged c.is_accepted.ensures _ _ (whole_now c.run-t.result _ _ _ _ _ _ _ _ _ _ _ _ _ _ _ _ _ _ _ _) _ _ c.if-is_accepted.true c.run-t.ensures.1 c.snapshot_of-snapshot.ensures ended in
+    let ended = ended_both c.args.r _ _ c.judged-c.result.overload (rooms entry) _ (whole_now c.run-t.result _ _ _ _ _ _ _ _) _ conjugated c.run-t.ensures.0 (split_join _ c.memory-then-is_accepted-2-1.given) in
+    let b = taken_is c.args.r _ _ (rooms entry) c.judged-c.result _ judged c.is_accepted.ensures _ _ (whole_now c.run-t.result _ _ _ _ _ _ _ _) _ _ c.if-is_accepted.true c.run-t.ensures.1 c.snapshot_of-snapshot.ensures ended in
     record { same = b.0; kept = b.1.0; most = b.1.1 }
 
 pub returns : goal.returns
