@@ -7,7 +7,7 @@ use channels::symbols::symbol;
 use complex::{
     Complex32, Observation, is_finite, multiplied, multiplied_conjugate, power, subtracted,
 };
-use numbers::compare::is_finite32;
+use numbers::compare;
 
 // The observation weighted by the main tap, so that its size follows the channel's power, and the
 // same over that power.
@@ -33,7 +33,7 @@ fn cancelled(input: Complex32, t: Taps, prior: u32) -> Complex32
 fn is_usable(reliable: bool, power: f32) -> bool
     ensures { result ≡ is_usable reliable power }
 {
-    reliable & is_finite32(power) & (power > 1e-6)
+    reliable & compare::is_finite(power) & (power > 1e-6)
 }
 
 fn divided(z: Complex32, by: f32) -> Complex32

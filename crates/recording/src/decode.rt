@@ -1,5 +1,5 @@
 // The numbers of a recording, little-endian.
-ghost use Rattle.std.specs.Prelude.{◌≡◌, [], ◌∷◌, ◌++◌, ◌+◌, ◌*◌, ◌≤◌, length, drop};
+ghost use Rattle.std.specs.Prelude.{◌≡◌, ◌++◌, ◌+◌, ◌*◌, ◌≤◌, length, drop};
 ghost use Rattle.std.specs.Float.{binary64, binary32};
 ghost use Rattle.std.specs.Float.Ieee.{of_bits};
 ghost use Rattle.numbers.specs.Bits.{little_endian};
@@ -7,19 +7,12 @@ ghost use Rattle.recording.specs.Decode.{word_at, floats_of};
 
 use numbers::bits::{decoded, decoded32};
 
-// The number of four bytes, the lowest first.
-fn word(a: u8, b: u8, c: u8, d: u8) -> u32
-    ensures { result ≡ little_endian (a ∷ b ∷ c ∷ d ∷ []) }
-{
-    (a as u32) + 256 * ((b as u32) + 256 * ((c as u32) + 256 * (d as u32)))
-}
-
 // The unsigned number of the four bytes from `at` on.
 pub fn count(source: &[u8], at: usize) -> u32
     requires { at + 4 ≤ length source.now }
     ensures { result ≡ word_at 4 source.now at }
 {
-    word(source[at], source[at + 1], source[at + 2], source[at + 3])
+    u32::from_le_bytes([source[at], source[at + 1], source[at + 2], source[at + 3]])
 }
 
 // The float of the four bytes from `at` on.

@@ -48,35 +48,35 @@ fn low_half(a: u64) -> u32 {
 
 fn signs(h: u64, x: f64, y: f32) -> u64 {
     let h1 = mixed_flag(h, compare::is_nan(x));
-    let h2 = mixed_flag(h1, compare::is_nan32(y));
+    let h2 = mixed_flag(h1, compare::is_nan(y));
     let h3 = mixed_flag(h2, compare::is_finite(x));
-    let h4 = mixed_flag(h3, compare::is_finite32(y));
+    let h4 = mixed_flag(h3, compare::is_finite(y));
     let h5 = mixed_flag(h4, compare::is_negative(x));
-    let h6 = mixed_flag(h5, compare::is_negative32(y));
+    let h6 = mixed_flag(h5, compare::is_negative(y));
     let h7 = mixed_float(h6, compare::abs(x));
-    mixed_float32(h7, compare::abs32(y))
+    mixed_float32(h7, compare::abs(y))
 }
 
 fn ends(h: u64, x: f64, b: f64, c: f64, y: f32, d: f32, e: f32) -> u64 {
     let h1 = mixed_float(h, compare::min(x, b));
-    let h2 = mixed_float32(h1, compare::min32(y, d));
+    let h2 = mixed_float32(h1, compare::min(y, d));
     let h3 = mixed_float(h2, compare::max(x, b));
-    let h4 = mixed_float32(h3, compare::max32(y, d));
+    let h4 = mixed_float32(h3, compare::max(y, d));
     let r = bounds(b, c);
     let h5 = mixed_float(h4, compare::clamp(x, r.low, r.high));
     let s = bounds32(d, e);
-    mixed_float32(h5, compare::clamp32(y, s.low, s.high))
+    mixed_float32(h5, compare::clamp(y, s.low, s.high))
 }
 
 fn roundings(h: u64, x: f64, y: f32) -> u64 {
     let h1 = mixed_float(h, narrow::widen(y));
     let h2 = mixed_float32(h1, narrow::narrow(x));
     let h3 = mixed_float(h2, whole::floor(x));
-    let h4 = mixed_float32(h3, whole::floor32(y));
+    let h4 = mixed_float32(h3, whole::floor(y));
     let h5 = mixed_float(h4, whole::round(x));
     let h6 = mixed_float(h5, whole::round_ties_even(x));
     let h7 = mixed_float(h6, roots::sqrt(x));
-    mixed_float32(h7, roots::sqrt32(y))
+    mixed_float32(h7, roots::sqrt(y))
 }
 
 // The 64 bits of a 32-bit number, its sign kept.

@@ -13,4 +13,4 @@ loop-k-preserved c = (search rules, turns_step _ _ _ _ c.loop-k.invariant.1)
 
 pub returns : goal.returns
 unfolding of_bits neg
-returns c = update_is _ _ _ _ _ _ c.loop-k.invariant.1 (search rules) (search rules) c.clamp32.ensures
+returns c = update_is _ _ _ _ _ _ c.loop-k.invariant.1 (search rules) (search rules) c.clamp.ensures

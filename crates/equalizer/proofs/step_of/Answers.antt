@@ -1,4 +1,4 @@
--- `equalizer::step_of` meets its contract: it is what `clamp32` answers, in the definition's formula.
+-- `equalizer::step_of` meets its contract: it is what `clamp` answers, in the definition's formula.
 use Rattle.equalizer.proofs.step_of.Goals as goal
 
 pub returns : goal.returns
