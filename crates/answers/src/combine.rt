@@ -5,7 +5,7 @@ ghost use Rattle.answers.specs.Observed.{cancelled_of, is_usable, divided_of, ob
 use channels::channel::Taps;
 use channels::symbols::symbol;
 use complex::{Complex32, is_finite, multiplied, multiplied_conjugate, power, subtracted};
-use numbers::compare::is_finite32;
+use numbers::compare;
 
 // The observation weighted by the main tap, so that its size follows the channel's power, and the
 // same over that power: none where the signal was not reliable.
@@ -31,7 +31,7 @@ fn cancelled(input: Complex32, t: Taps, prior: u32) -> Complex32
 fn is_usable(reliable: bool, power: f32) -> bool
     ensures { result ≡ is_usable reliable power }
 {
-    reliable & is_finite32(power) & (power > 1e-6)
+    reliable & compare::is_finite(power) & (power > 1e-6)
 }
 
 fn divided(z: Complex32, by: f32) -> Complex32

@@ -4,7 +4,7 @@ ghost use Rattle.answers.specs.Observed.{noise_after_of, size_of, eighth_turned_
 
 use super::STEPS;
 use complex::{Complex32, multiplied_conjugate};
-use numbers::compare::{abs32, clamp32, is_finite32, max32, min32};
+use numbers::compare::{abs, clamp, is_finite, max, min};
 use routines::hypotenuse::hypotenuse;
 use whole::to_u8;
 
@@ -40,8 +40,8 @@ pub fn oldest(records: Records, write: usize) -> Soft
 pub fn noise_after(noise: f32, residual: f32, reliable: bool) -> f32
     ensures { result ≡ noise_after_of noise residual reliable }
 {
-    if reliable & is_finite32(residual) {
-        noise + 0.02 * (min32(residual, 4.0) - noise)
+    if reliable & is_finite(residual) {
+        noise + 0.02 * (min(residual, 4.0) - noise)
     } else {
         noise
     }
@@ -67,7 +67,7 @@ fn eighth_turned(z: Complex32) -> Complex32
 fn scale(now: Complex32, before: Complex32, noise: f32) -> f32
     ensures { result ≡ scale_of now before noise }
 {
-    1.0 / ((size(now) + size(before)) * max32(noise, 1e-4) + 1e-12)
+    1.0 / ((size(now) + size(before)) * max(noise, 1e-4) + 1e-12)
 }
 
 fn recorded(now: Complex32, before: Complex32, noise: f32) -> Soft
@@ -75,8 +75,8 @@ fn recorded(now: Complex32, before: Complex32, noise: f32) -> Soft
 {
     let product = eighth_turned(multiplied_conjugate(now, before));
     let k = scale(now, before, noise);
-    let high = abs32(product.imaginary) * k;
-    let low = abs32(product.real) * k;
+    let high = abs(product.imaginary) * k;
+    let low = abs(product.real) * k;
     Soft::Recorded(product.imaginary < 0.0, product.real < 0.0, high, low)
 }
 
@@ -97,7 +97,7 @@ pub fn record(now: Option<Complex32>, before: Option<Complex32>, noise: f32) -> 
 fn byte(reliability: f32) -> u8
     ensures { result ≡ byte_of reliability }
 {
-    to_u8(clamp32(reliability * 32.0, 0.0, 255.0))
+    to_u8(clamp(reliability * 32.0, 0.0, 255.0))
 }
 
 // The byte where the record's sign is the decided bit, and 0 where it is not.

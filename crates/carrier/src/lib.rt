@@ -10,9 +10,9 @@ use answers::soft::Soft;
 use answers::walk::Answer;
 use complex::{Complex32, Complex64};
 use numbers::TURN;
-use numbers::compare::{clamp, clamp32};
+use numbers::compare::clamp;
 use numbers::narrow::widen;
-use roots::sqrt32;
+use roots::sqrt;
 use routines::circle::{SineCosine, sine_cosine};
 use sequence::step::{Detected, DetectorPlace};
 use whole::round_ties_even;
@@ -104,7 +104,7 @@ fn unwound(phase: f64) -> f64
 fn phase_error(e: f32) -> f64
     ensures { result ≡ phase_error_of e }
 {
-    widen(clamp32(e, -0.5, 0.5))
+    widen(clamp(e, -0.5, 0.5))
 }
 
 fn frequency_after(frequency: f64, e: f64) -> f64
@@ -122,7 +122,7 @@ fn phase_after(phase: f64, frequency: f64, e: f64) -> f64
 fn error_after(error: f64, power: f32) -> f64
     ensures { result ≡ error_after_of error power }
 {
-    0.98 * error + 0.02 * widen(sqrt32(power))
+    0.98 * error + 0.02 * widen(sqrt(power))
 }
 
 fn is_locked(reliable: bool, error: f64) -> bool

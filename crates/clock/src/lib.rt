@@ -13,7 +13,7 @@ mod tick;
 
 use complex::Complex32;
 use filter::{RING, TAPS, WINDOWS, matched};
-use numbers::compare::clamp32;
+use numbers::compare::clamp;
 use tick::ticked;
 
 // Where the clock stands: the ring's oldest sample and how many it holds, where the next window
@@ -141,7 +141,7 @@ pub fn update(c: ClockPlace, error: f32) -> ClockPlace
     }
     ClockPlace {
         phase,
-        rate: clamp32(rate, -0.1, 0.1),
+        rate: clamp(rate, -0.1, 0.1),
         ..c
     }
 }

@@ -5,7 +5,7 @@
 ghost use Rattle.std.specs.Prelude.{◌≡◌};
 ghost use Rattle.complex.specs.Complex.{zero_pair, sum_of, difference_of, scaled_of, product_of, conjugate_product_of, power_of, both_finite, narrowed_of};
 
-use numbers::compare::is_finite32;
+use numbers::compare;
 use numbers::narrow::narrow;
 
 #[derive(Clone, Copy)]
@@ -94,7 +94,7 @@ pub fn power(z: Complex32) -> f32
 pub fn is_finite(z: Complex32) -> bool
     ensures { result ≡ both_finite z }
 {
-    is_finite32(z.real) & is_finite32(z.imaginary)
+    compare::is_finite(z.real) & compare::is_finite(z.imaginary)
 }
 
 // Each part rounded once.

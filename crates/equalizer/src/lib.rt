@@ -9,8 +9,8 @@ ghost use Rattle.equalizer.specs.Equalizer.{Step, fresh_real, fresh_imaginary, t
 ghost use Rattle.equalizer.specs.Equalizer.{adapted_of, norm_of, scaled_by, limited_of, step_of, learns_of, updated_of, timing_error_of, equalized_of};
 
 use complex::Complex32;
-use numbers::compare::{clamp32, is_finite32};
-use roots::sqrt32;
+use numbers::compare::{clamp, is_finite};
+use roots::sqrt;
 
 // The weights, one for each window of the matched filter, half a symbol apart.
 pub const WEIGHTS: usize = 21;
@@ -147,7 +147,7 @@ fn limit(wr: &mut [f32; WEIGHTS], wi: &mut [f32; WEIGHTS])
 {
     let size = norm(wr, wi);
     if size > 16.0 {
-        scale(wr, wi, 4.0 / sqrt32(size));
+        scale(wr, wi, 4.0 / sqrt(size));
     }
 }
 
@@ -156,7 +156,7 @@ fn limit(wr: &mut [f32; WEIGHTS], wi: &mut [f32; WEIGHTS])
 fn step_of(power: f32, energy: f32) -> f32
     ensures { result ≡ step_of power energy }
 {
-    ADAPTATION * clamp32(1.0 - power, -2.0, 1.0) / energy
+    ADAPTATION * clamp(1.0 - power, -2.0, 1.0) / energy
 }
 
 // Whether the weights move at all: the symbol is reliable, the energy is above 0.01, and energy and
@@ -164,7 +164,7 @@ fn step_of(power: f32, energy: f32) -> f32
 fn learns(reliable: bool, energy: f32, power: f32) -> bool
     ensures { result ≡ learns_of reliable energy power }
 {
-    reliable & (energy > 0.01) & is_finite32(energy) & is_finite32(power)
+    reliable & (energy > 0.01) & is_finite(energy) & is_finite(power)
 }
 
 // The weights after a symbol: adapted and limited, or left as they are.
@@ -194,7 +194,7 @@ fn timing_error(s: Sums, reliable: bool) -> f32
     let derivative = s.derivative;
     if reliable {
         let product = value.real * derivative.real + value.imaginary * derivative.imaginary;
-        clamp32(0.5 * product, -1.0, 1.0)
+        clamp(0.5 * product, -1.0, 1.0)
     } else {
         0.0
     }

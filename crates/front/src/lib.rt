@@ -12,7 +12,6 @@ ghost use Rattle.front.specs.Lends.{LeavesRow, LeavesOffer, Leaves};
 use complex::Complex32;
 use decimator::{Decimator, Integrators, Output};
 use oscillator::Oscillator;
-use patterns::least_usize;
 use resampler::pass::{PLACES, Passed, Resampler};
 
 // Values that a row has room for.
@@ -145,7 +144,7 @@ fn several(p: FrontPlace, conjugated: bool, samples: &[f32], from: usize) -> Dra
     let d = p.decimator;
     let i = d.integrators;
     let needed = d.decimation - d.counter;
-    let run = least_usize(samples.len() / 2 - from, needed);
+    let run = (samples.len() / 2 - from).min(needed);
     let start = Gathering {
         oscillator: o,
         integrators: i,

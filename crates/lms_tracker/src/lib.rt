@@ -13,7 +13,7 @@ use channels::channel::{Taps, put_taps, taps_at};
 use channels::symbols::symbol;
 use channels::{CHANNELS, STATES};
 use complex::{Complex32, power, subtracted};
-use roots::sqrt32;
+use roots::sqrt;
 
 // The steps by which the main tap, the first after it and the two later ones move. Larger steps
 // follow faster and are noisier: the later taps have little to follow.
@@ -111,7 +111,7 @@ fn limit_taps(real: &mut [f32; CHANNELS], imaginary: &mut [f32; CHANNELS], state
     ensures imaginary_after { imaginary.new ≡ limit_column norm state imaginary.old }
 {
     if norm > MOST_POWER {
-        let gain = MOST_SIZE / sqrt32(norm);
+        let gain = MOST_SIZE / sqrt(norm);
         scale(real, state, gain);
         scale(imaginary, state, gain);
     }

@@ -1,4 +1,3 @@
 pub mod Narrowing
-pub mod Minus
 pub mod Faithful
 pub mod NearestLaws

@@ -2,103 +2,52 @@
 ghost use Rattle.std.specs.Prelude.{◌≡◌, is_nan};
 ghost use Rattle.numbers.specs.Numbers.{is_finite, sign_of, abs_of, min_of, max_of, clamp_of};
 
-pub fn is_nan(x: f64) -> bool
-    ensures { result ≡ is_nan x }
+use patterns::width::Width;
+
+pub fn is_nan<F: Width>(x: F) -> bool
+    ensures { result ≡ is_nan (F.number x) }
 {
-    x != x
+    x.is_nan()
 }
 
-pub fn is_nan32(x: f32) -> bool
-    ensures { result ≡ is_nan x }
+pub fn is_finite<F: Width>(x: F) -> bool
+    ensures { result ≡ is_finite (F.number x) }
 {
-    x != x
-}
-
-pub fn is_finite(x: f64) -> bool
-    ensures { result ≡ is_finite x }
-{
-    x - x == 0.0
-}
-
-pub fn is_finite32(x: f32) -> bool
-    ensures { result ≡ is_finite x }
-{
-    x - x == 0.0
+    x.is_finite()
 }
 
 // The sign, of a zero too; a NaN has none.
-pub fn is_negative(x: f64) -> bool
-    ensures { result ≡ sign_of x }
+pub fn is_negative<F: Width>(x: F) -> bool
+    ensures { result ≡ sign_of (F.number x) }
 {
-    if x != x {
-        false
-    } else {
-        f64::to_bits(x) >= 0x8000_0000_0000_0000
-    }
-}
-
-pub fn is_negative32(x: f32) -> bool
-    ensures { result ≡ sign_of x }
-{
-    if x != x {
-        false
-    } else {
-        f32::to_bits(x) >= 0x8000_0000
-    }
+    !x.is_nan() & (x.pattern() >= F::SIGN)
 }
 
 // The sign's bit is cleared.
-pub fn abs(x: f64) -> f64
-    ensures { result ≡ abs_of x }
+pub fn abs<F: Width>(x: F) -> F
+    ensures { F.number result ≡ abs_of (F.number x) }
 {
-    if x != x {
+    if x.is_nan() {
         x
     } else {
-        f64::from_bits(f64::to_bits(x) % 0x8000_0000_0000_0000)
-    }
-}
-
-pub fn abs32(x: f32) -> f32
-    ensures { result ≡ abs_of x }
-{
-    if x != x {
-        x
-    } else {
-        f32::from_bits(f32::to_bits(x) % 0x8000_0000)
+        F::of_pattern(x.pattern() % F::SIGN)
     }
 }
 
 // The smaller: a NaN is passed over, and of unlike zeros -0 is the smaller.
-pub fn min(x: f64, y: f64) -> f64
-    ensures { result ≡ min_of x y }
+#[tactic(auto, unfolding(crate::specs::Numbers::min_of))]
+pub fn min<F: Width>(x: F, y: F) -> F
+    ensures { F.number result ≡ min_of (F.number x) (F.number y) }
 {
-    if x != x {
+    if x.is_nan() {
         y
-    } else if y != y {
+    } else if y.is_nan() {
         x
-    } else if x < y {
+    } else if x.is_below(y) {
         x
-    } else if y < x {
+    } else if y.is_below(x) {
         y
     } else if is_negative(x) {
-        x
-    } else {
-        y
-    }
-}
-
-pub fn min32(x: f32, y: f32) -> f32
-    ensures { result ≡ min_of x y }
-{
-    if x != x {
-        y
-    } else if y != y {
-        x
-    } else if x < y {
-        x
-    } else if y < x {
-        y
-    } else if is_negative32(x) {
         x
     } else {
         y
@@ -106,16 +55,17 @@ pub fn min32(x: f32, y: f32) -> f32
 }
 
 // The larger: a NaN is passed over, and of unlike zeros +0 is the larger.
-pub fn max(x: f64, y: f64) -> f64
-    ensures { result ≡ max_of x y }
+#[tactic(auto, unfolding(crate::specs::Numbers::max_of))]
+pub fn max<F: Width>(x: F, y: F) -> F
+    ensures { F.number result ≡ max_of (F.number x) (F.number y) }
 {
-    if x != x {
+    if x.is_nan() {
         y
-    } else if y != y {
+    } else if y.is_nan() {
         x
-    } else if y < x {
+    } else if y.is_below(x) {
         x
-    } else if x < y {
+    } else if x.is_below(y) {
         y
     } else if is_negative(x) {
         y
@@ -124,43 +74,14 @@ pub fn max(x: f64, y: f64) -> f64
     }
 }
 
-pub fn max32(x: f32, y: f32) -> f32
-    ensures { result ≡ max_of x y }
-{
-    if x != x {
-        y
-    } else if y != y {
-        x
-    } else if y < x {
-        x
-    } else if x < y {
-        y
-    } else if is_negative32(x) {
-        y
-    } else {
-        x
-    }
-}
-
 // x, or the end of low..high that it lies beyond; a NaN stays.
-pub fn clamp(x: f64, low: f64, high: f64) -> f64
-    ensures { result ≡ clamp_of x low high }
+#[tactic(auto, unfolding(crate::specs::Numbers::clamp_of))]
+pub fn clamp<F: Width>(x: F, low: F, high: F) -> F
+    ensures { F.number result ≡ clamp_of (F.number x) (F.number low) (F.number high) }
 {
-    if x < low {
+    if x.is_below(low) {
         low
-    } else if high < x {
-        high
-    } else {
-        x
-    }
-}
-
-pub fn clamp32(x: f32, low: f32, high: f32) -> f32
-    ensures { result ≡ clamp_of x low high }
-{
-    if x < low {
-        low
-    } else if high < x {
+    } else if high.is_below(x) {
         high
     } else {
         x

@@ -1,6 +1,6 @@
 // Number helpers: comparisons that pass over a NaN or keep it, narrowing,
-// and what bits stand for. Each has its answer for every input. A name that ends in 32 is that of
-// the `f32` form.
+// and what bits stand for. Each has its answer for every input. In `bits` a name that ends in 32 is
+// that of the `f32` form.
 #![tactic(auto)]
 
 pub mod bits;

@@ -6,7 +6,7 @@ ghost use Rattle.laws.specs.FloatParts.{digits_of, power_of};
 ghost use Rattle.numbers.specs.Numbers.{convert};
 ghost use Rattle.numbers.specs.Rare.{rare};
 
-use patterns::{digits, least, less, pow2, power, shifted, wide};
+use patterns::{digits, pow2, power, shifted};
 
 // The same number at the wider format; a NaN stays one.
 pub fn widen(x: f32) -> f64
@@ -29,11 +29,11 @@ fn narrow_finite(s: bool, d: u64, e: u64) -> f32
     requires e_bound { e ≤ 2045 }
     ensures { result ≡ round binary32 s (d * 2 ^ e) (2 ^ 1074) }
 {
-    let z = wide(u64::leading_zeros(d));
+    let z = d.leading_zeros() as u64;
     let n = d * pow2(z - 1);
-    let k = less(e, z + 885);
+    let k = e.saturating_sub(z + 885);
     let q = shifted(n, k + z + 924 - e);
-    let p = least(k * 0x80_0000 + q, 0x7f80_0000);
+    let p = (k * 0x80_0000 + q).min(0x7f80_0000);
     f32::from_bits(sign32(s) + (p as u32))
 }
 
@@ -69,7 +69,11 @@ pub fn narrow(x: f64) -> f32
         return f32::from_bits(sign32(b >= 0x8000_0000_0000_0000) + 0x7f80_0000);
     }
     if is_rare(magnitude) {
-        return narrow_finite(b >= 0x8000_0000_0000_0000, digits(b), power(b));
+        return narrow_finite(
+            b >= 0x8000_0000_0000_0000,
+            digits::<f64>(b),
+            power::<f64>(b),
+        );
     }
     narrow_everyday(b)
 }

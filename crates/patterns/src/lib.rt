@@ -1,11 +1,14 @@
 // Powers of two, shifts that round, and the parts of a float's bit pattern.
 #![tactic(auto)]
 
+pub mod width;
+
 ghost use Rattle.std.specs.Prelude.{◌≡◌, ◌-◌, ◌^◌, ◌<◌, ◌≤◌};
 ghost use Prim.Native.Nat as Nat;
-ghost use Rattle.std.specs.Float.{binary32, binary64};
 ghost use Rattle.std.specs.Float.Ieee.Nearest.{closest};
 ghost use Rattle.laws.specs.FloatParts.{digits_of, power_of};
+
+use crate::width::Width;
 
 // 2 to the power k.
 pub fn pow2(k: u64) -> u64
@@ -13,32 +16,6 @@ pub fn pow2(k: u64) -> u64
     ensures { result ≡ 2 ^ k }
 {
     1 << k
-}
-
-// a - b, and 0 where b is the larger.
-pub fn less(a: u64, b: u64) -> u64
-    ensures { result ≡ a - b }
-{
-    if a < b { 0 } else { a - b }
-}
-
-// The smaller of two numbers, and of two sizes.
-pub fn least(a: u64, b: u64) -> u64
-    ensures { result ≡ Nat.min a b }
-{
-    if a < b { a } else { b }
-}
-
-pub fn least_usize(a: usize, b: usize) -> usize
-    ensures { result ≡ Nat.min a b }
-{
-    if b < a { b } else { a }
-}
-
-pub fn wide(x: u32) -> u64
-    ensures { result ≡ x }
-{
-    x as u64
 }
 
 // n / 2 ^ shift to the nearest whole number, a tie to the even one.
@@ -65,36 +42,19 @@ pub fn shifted(n: u64, shift: u64) -> u64
 
 // The size that a pattern below the infinity's stands for is digits * 2 ^ power of the smallest
 // values.
-pub fn digits(b: u64) -> u64
-    ensures { result ≡ digits_of binary64 b }
+pub fn digits<F: Width>(b: u64) -> u64
+    ensures { result ≡ digits_of F.format b }
 {
-    let trailing = b % 0x10_0000_0000_0000;
-    if b % 0x8000_0000_0000_0000 / 0x10_0000_0000_0000 == 0 {
+    let trailing = b % F::HIDDEN;
+    if b % F::SIGN / F::HIDDEN == 0 {
         trailing
     } else {
-        trailing + 0x10_0000_0000_0000
+        trailing + F::HIDDEN
     }
 }
 
-pub fn power(b: u64) -> u64
-    ensures { result ≡ power_of binary64 b }
+pub fn power<F: Width>(b: u64) -> u64
+    ensures { result ≡ power_of F.format b }
 {
-    less(b % 0x8000_0000_0000_0000 / 0x10_0000_0000_0000, 1)
-}
-
-pub fn digits32(b: u32) -> u64
-    ensures { result ≡ digits_of binary32 b }
-{
-    let trailing = b % 0x80_0000;
-    if b % 0x8000_0000 / 0x80_0000 == 0 {
-        wide(trailing)
-    } else {
-        wide(trailing + 0x80_0000)
-    }
-}
-
-pub fn power32(b: u32) -> u64
-    ensures { result ≡ power_of binary32 b }
-{
-    less(wide(b % 0x8000_0000 / 0x80_0000), 1)
+    (b % F::SIGN / F::HIDDEN).saturating_sub(1)
 }

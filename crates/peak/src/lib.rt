@@ -9,7 +9,7 @@ ghost use Rattle.peak.specs.Peak.{KeeperStep, fresh_place, admitted_of, envelope
 ghost use Rattle.peak.specs.Columns.{column_of, columns_of, quarter_of, highest_of};
 
 use complex::{Complex32, scaled};
-use numbers::compare::{abs32, max32, min32};
+use numbers::compare::{abs, max, min};
 
 // The values that are kept: at 19,200 a second 3.3 milliseconds, or 16 symbols.
 pub const VALUES: usize = 64;
@@ -61,9 +61,9 @@ pub fn is_admitted(p: KeeperPlace) -> bool
 fn envelope(real: f32, imaginary: f32) -> f32
     ensures { result ≡ envelope_of real imaginary }
 {
-    let a = abs32(real);
-    let b = abs32(imaginary);
-    max32(a, b) + 0.4 * min32(a, b)
+    let a = abs(real);
+    let b = abs(imaginary);
+    max(a, b) + 0.4 * min(a, b)
 }
 
 // The envelopes of a ring's values.
@@ -123,7 +123,7 @@ fn highest(e: &[f32; VALUES]) -> f32
 fn followed(peak: f32, reference: f32) -> f32
     ensures { result ≡ followed_of peak reference }
 {
-    max32(peak, reference * 0.99995)
+    max(peak, reference * 0.99995)
 }
 
 // A peak under 0.08 of the reference is too faint to rely on, and is amplified no further.
@@ -144,7 +144,7 @@ fn is_reliable(peak: f32, floor: f32) -> bool
 fn gain(peak: f32, floor: f32) -> f32
     ensures { result ≡ gain_of peak floor }
 {
-    1.0 / max32(max32(peak, floor), 1e-12)
+    1.0 / max(max(peak, floor), 1e-12)
 }
 
 // The oldest value at its gain, and the reference that follows the peak.

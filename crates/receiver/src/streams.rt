@@ -9,7 +9,6 @@ use chain::Chained;
 use checks::block::judged;
 use checks::refusal::{Verdict, is_accepted};
 use oscillator::is_conjugated;
-use patterns::least_usize;
 use receiver_state::state::{Receiver, snapshot_of, zero_snapshot};
 use run::{Running, run};
 
@@ -31,11 +30,7 @@ pub fn refused(verdict: Verdict, r: Receiver) -> Block
 fn room(both: bool, first: usize, other: usize) -> usize
     ensures { result ≡ room_of both first other }
 {
-    if both {
-        least_usize(first, other)
-    } else {
-        first
-    }
+    if both { first.min(other) } else { first }
 }
 
 // Takes a block: pairs of floats in; dibits, and two reliabilities for each, out. The planes are taken

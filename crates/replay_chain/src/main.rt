@@ -14,7 +14,6 @@ use carrier::{CarrierPlace, Loop};
 use chain::{ChainPlace, Chained};
 use clock::ClockPlace;
 use numbers::bits::{float, float32};
-use patterns::least;
 use peak::KeeperPlace;
 use replay::{fill, mixed, mixed_bytes, mixed_flag, mixed_float32, mixed_plane, print_line, word};
 use replay_detector::{
@@ -372,8 +371,8 @@ fn run(
     let mut left = rows;
     while left > 0 {
         let head = read_word();
-        let made = least(low(head), 256) as usize;
-        let before = least(high(head), 8) as usize;
+        let made = low(head).min(256) as usize;
+        let before = high(head).min(8) as usize;
         read_row(made, &mut row_real, &mut row_imaginary);
         if p.symbols > 9007199254740000 {
             break;
@@ -448,7 +447,7 @@ fn decoded(head: &[u8]) -> Request
         count: (high(view) % 1025) as usize,
         profile: profile(places),
         symbols,
-        locked: least(word(head, 64), symbols),
+        locked: word(head, 64).min(symbols),
         has_second: is_set(high(places) / 256),
         both: is_set(high(places) / 65536),
     }

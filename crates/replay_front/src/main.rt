@@ -10,7 +10,7 @@ ghost use Rattle.front.specs.Admitted.{Admitted, Numbers};
 use decimator::Decimator;
 use front::{FrontPlace, ROW};
 use numbers::bits::float;
-use numbers::compare::is_nan32;
+use numbers::compare::is_nan;
 use oscillator::Oscillator;
 use replay::{
     mixed, mixed_float, mixed_float32, mixed_plane, mixed_three, next, print_line, sample_part,
@@ -61,7 +61,7 @@ fn decoded(head: &[u8]) -> Request
 fn number(x: f32) -> f32
     ensures { T (not (is_nan result)) }
 {
-    if is_nan32(x) { 0.0 } else { x }
+    if is_nan(x) { 0.0 } else { x }
 }
 
 // The parts of a block's samples, and the seed after them.

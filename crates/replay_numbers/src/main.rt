@@ -17,37 +17,37 @@ fn low_half(a: u64) -> u32 {
 fn signs(h: u64, x: f64, y: f32) -> u64 {
     let flags = [
         compare::is_nan(x),
-        compare::is_nan32(y),
+        compare::is_nan(y),
         compare::is_finite(x),
-        compare::is_finite32(y),
+        compare::is_finite(y),
         compare::is_negative(x),
-        compare::is_negative32(y),
+        compare::is_negative(y),
     ];
     let h = flags.into_iter().fold(h, mixed_flag);
     let h = mixed_float(h, compare::abs(x));
-    mixed_float32(h, compare::abs32(y))
+    mixed_float32(h, compare::abs(y))
 }
 
 fn ends(h: u64, x: f64, b: f64, c: f64, y: f32, d: f32, e: f32) -> u64 {
     let h = mixed_float(h, compare::min(x, b));
-    let h = mixed_float32(h, compare::min32(y, d));
+    let h = mixed_float32(h, compare::min(y, d));
     let h = mixed_float(h, compare::max(x, b));
-    let h = mixed_float32(h, compare::max32(y, d));
+    let h = mixed_float32(h, compare::max(y, d));
     let (low, high) = bounds(b, c, (-2.5, 1.0e10));
     let h = mixed_float(h, compare::clamp(x, low, high));
     let (low, high) = bounds(d, e, (-2.5, 1.0e10));
-    mixed_float32(h, compare::clamp32(y, low, high))
+    mixed_float32(h, compare::clamp(y, low, high))
 }
 
 fn roundings(h: u64, x: f64, y: f32) -> u64 {
     let h = mixed_float(h, narrow::widen(y));
     let h = mixed_float32(h, narrow::narrow(x));
     let h = mixed_float(h, whole::floor(x));
-    let h = mixed_float32(h, whole::floor32(y));
+    let h = mixed_float32(h, whole::floor(y));
     let h = mixed_float(h, whole::round(x));
     let h = mixed_float(h, whole::round_ties_even(x));
     let h = mixed_float(h, roots::sqrt(x));
-    mixed_float32(h, roots::sqrt32(y))
+    mixed_float32(h, roots::sqrt(y))
 }
 
 fn casts(h: u64, a: u64, x: f64, y: f32) -> u64 {

@@ -6,7 +6,7 @@ ghost use Rattle.std.specs.Prelude.{◌<◌};
 
 use complex::Complex32;
 use numbers::bits::{float, float32};
-use numbers::compare::is_nan32;
+use numbers::compare::is_nan;
 use oscillator::Oscillator;
 use replay::{mixed, mixed_float, mixed_float32, print_line, word};
 
@@ -54,13 +54,13 @@ fn sampled(h: u64, o: Oscillator, real: f32, imaginary: f32, conjugated: bool) -
     requires { o.renormalize < 4096 }
     ensures { result.oscillator.renormalize < 4096 }
 {
-    if is_nan32(real) {
+    if is_nan(real) {
         return Turn {
             oscillator: o,
             digest: h,
         };
     }
-    if is_nan32(imaginary) {
+    if is_nan(imaginary) {
         return Turn {
             oscillator: o,
             digest: h,

@@ -7,7 +7,6 @@
 ghost use Rattle.std.specs.Prelude.{◌+◌, ◌≤◌, ◌<◌, length};
 ghost use Rattle.program.specs.Program.{wanted_of, left_of, Moves};
 
-use patterns::least_usize;
 use program::step::{Program, started, stepped, wanted};
 use replay::word;
 
@@ -35,7 +34,7 @@ fn play(recording: &[u8]) {
     let mut stage = p.stage;
     let mut at = 0;
     while wanted(stage) > 0 {
-        let end = at + least_usize(wanted(stage), recording.len() - at);
+        let end = at + wanted(stage).min(recording.len() - at);
         let q = turned(p, &recording[at..end], &mut table);
         stage = q.stage;
         p = q;

@@ -241,31 +241,6 @@ module _ (f : Format) (x : Float) where
   abbrev bits : ℕ
   bits = to_bits f x
 
-  -- as the code's tests decide it
-  module _ (n : ne x x ≡ false) where
-    pub zero_itself : eq x (fin false 0 (pos 0)) ≡ true → Itself ≡ radicand_of f x
-    unfolding radicand_of
-    zero_itself z = rw (sym (ne_self x) ∙ n, z)
-
-    module _ (z : eq x (fin false 0 (pos 0)) ≡ false) where
-      pub sign_negative : top f ≤ bits → Negative ≡ radicand_of f x
-      unfolding radicand_of
-      sign_negative l = rw (sym (ne_self x) ∙ n, z, is_true (leb (top f) bits) (le→leb (top f) bits l))
-
-      pub infinity_itself : bits < top f → bits ≡ ones f * hid f → Itself ≡ radicand_of f x
-      unfolding radicand_of
-      infinity_itself l i = rw (sym (ne_self x) ∙ n, z, is_false (leb (top f) bits) (lt→nleb (top f) bits l), is_true (eqb bits (ones f * hid f)) (eq→eqb i))
-
-      pub digits_read : (d p : ℕ) → bits < top f → (bits ≡ ones f * hid f → ⊥) → d ≡ digits_of f bits → p ≡ power_of f bits → Digits d p ≡ radicand_of f x
-      unfolding radicand_of
-      digits_read d p l i e g =
-          rw (sym (ne_self x) ∙ n, z, is_false (leb (top f) bits) (lt→nleb (top f) bits l), is_false (eqb bits (ones f * hid f)) (not_T (eqb bits (ones f * hid f)) (λ t. i (eqb→eq bits (ones f * hid f) t))))
-          (ap (λ (k : ℕ). Digits k p) e ∙ ap (Digits (digits_of f bits)) g)
-
-  pub nan_itself : ne x x ≡ true → Itself ≡ radicand_of f x
-  unfolding radicand_of
-  nan_itself h = rw (sym (ne_self x) ∙ h)
-
   -- the five ways to come by it
   data Way : Radicand → Type 0 where
     none : T (is_nan x) → Way Itself

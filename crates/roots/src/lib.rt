@@ -4,12 +4,13 @@
 // are first guessed by floats; a guess is taken where a comparison of whole numbers shows it right.
 #![tactic(auto)]
 
-ghost use Rattle.std.specs.Prelude.{◌≡◌, ◌+◌, ◌*◌, ◌^◌, ◌<◌, ◌≤◌, true, if◌then◌else◌, nat_le};
-ghost use Rattle.std.specs.Float.{binary32, binary64};
+ghost use Rattle.std.specs.Prelude.{◌≡◌, ◌+◌, ◌-◌, ◌*◌, ◌^◌, ◌<◌, ◌≤◌, T, true, if◌then◌else◌, nat_le};
+ghost use Rattle.std.specs.Float.Ieee.{fits, low, ones, prec};
 ghost use Rattle.numbers.specs.Root.{round_root, sqrt_of};
 ghost use Rattle.roots.specs.Radicands.{radicand_of, HalfRoot};
 
-use patterns::{digits, digits32, pow2, power, power32, wide};
+use patterns::width::Width;
+use patterns::{digits, pow2, power};
 use std::num::wrapping_sub_u64;
 
 // What a root is taken of. The number is its own root (a NaN, a zero, the infinity), it has none, or
@@ -37,14 +38,12 @@ fn root(n: u64, steps: u64) -> u64
     let mut q: u64 = 0;
     let mut rem: u64 = 0;
     let mut rest = n;
-    let mut i: u64 = 0;
-    while i < steps {
+    for i in 0..steps {
         let a = rem * 4 + rest / 0x4000_0000_0000_0000;
         let g = digit(q * 4 + 1, a);
         rem = a - g * (q * 4 + 1);
         q = q * 2 + g;
         rest = rest % 0x4000_0000_0000_0000 * 4;
-        i += 1;
     }
     q
 }
@@ -130,88 +129,61 @@ fn half_root(n: u64) -> u64
     w / 2 + w % 2
 }
 
-// The root of d * 2 ^ p smallest values of an `f64`.
-fn sqrt_finite(d: u64, p: u64) -> f64
-    requires d_nonzero { 0 < d }
-    requires d_bound { d < 2 ^ 53 }
-    requires p_bound { p ≤ 2045 }
-    ensures { result ≡ round_root binary64 (d * 2 ^ p) (2 ^ 1074) }
-{
-    let z = wide(u64::leading_zeros(d));
-    let y = z - (p + z) % 2;
-    let q = half_root(d * pow2(y));
-    f64::from_bits((p + 1032 - y) / 2 * 0x10_0000_0000_0000 + q)
+// A width of float, with its way to a root.
+pub trait Rooted: Width {
+    // The root of d * 2 ^ p smallest values.
+    fn finite_root(d: u64, p: u64) -> Self
+        requires d_nonzero { 0 < d }
+        requires d_bound { d < 2 ^ prec Self.format }
+        requires p_bound { p ≤ ones Self.format - 2 }
+        ensures { Self.number result ≡ round_root Self.format (d * 2 ^ p) (2 ^ low Self.format) };
 }
 
-fn prepared(x: f64) -> Radicand
-    ensures { result ≡ radicand_of binary64 x }
+impl Rooted for f64 {
+    fn finite_root(d: u64, p: u64) -> f64 {
+        let z = d.leading_zeros() as u64;
+        let y = z - (p + z) % 2;
+        let q = half_root(d * pow2(y));
+        f64::from_bits((p + 1032 - y) / 2 * 0x10_0000_0000_0000 + q)
+    }
+}
+
+impl Rooted for f32 {
+    fn finite_root(d: u64, p: u64) -> f32 {
+        let z = d.leading_zeros() as u64;
+        let y = z - (p + z + 1) % 2;
+        let w = root(d * pow2(y), 25);
+        f32::from_bits(((p + 165 - y) / 2 * 0x80_0000 + (w + 1) / 2) as u32)
+    }
+}
+
+#[tactic(auto, unfolding(crate::specs::Radicands::radicand_of))]
+fn prepared<F: Width>(x: F) -> Radicand
+    ensures value { result ≡ radicand_of F.format (F.number x) }
+    ensures held { T (fits F.format (F.number x)) }
 {
-    if x != x {
+    let b = x.pattern();
+    if x.is_nan() {
         return Radicand::Itself;
     }
-    if x == 0.0 {
+    if x.is_zero() {
         return Radicand::Itself;
     }
-    let b = f64::to_bits(x);
-    if b >= 0x8000_0000_0000_0000 {
+    if b >= F::SIGN {
         return Radicand::Negative;
     }
-    if b == 0x7ff0_0000_0000_0000 {
+    if b == F::INFINITY {
         return Radicand::Itself;
     }
-    Radicand::Digits(digits(b), power(b))
+    Radicand::Digits(digits::<F>(b), power::<F>(b))
 }
 
-pub fn sqrt(x: f64) -> f64
-    ensures { result ≡ sqrt_of binary64 x }
+pub fn sqrt<F: Rooted>(x: F) -> F
+    ensures { F.number result ≡ sqrt_of F.format (F.number x) }
 {
-    let r = prepared(x);
-    match r {
+    match prepared(x) {
         Radicand::Itself => x,
-        Radicand::Negative => 0.0 / 0.0,
-        Radicand::Digits(d, p) => sqrt_finite(d, p),
-    }
-}
-
-// The root of d * 2 ^ p smallest values of an `f32`.
-fn sqrt32_finite(d: u64, p: u64) -> f32
-    requires d_nonzero { 0 < d }
-    requires d_bound { d < 2 ^ 24 }
-    requires p_bound { p ≤ 253 }
-    ensures { result ≡ round_root binary32 (d * 2 ^ p) (2 ^ 149) }
-{
-    let z = wide(u64::leading_zeros(d));
-    let y = z - (p + z + 1) % 2;
-    let w = root(d * pow2(y), 25);
-    f32::from_bits(((p + 165 - y) / 2 * 0x80_0000 + (w + 1) / 2) as u32)
-}
-
-fn prepared32(x: f32) -> Radicand
-    ensures { result ≡ radicand_of binary32 x }
-{
-    if x != x {
-        return Radicand::Itself;
-    }
-    if x == 0.0 {
-        return Radicand::Itself;
-    }
-    let b = f32::to_bits(x);
-    if b >= 0x8000_0000 {
-        return Radicand::Negative;
-    }
-    if b == 0x7f80_0000 {
-        return Radicand::Itself;
-    }
-    Radicand::Digits(digits32(b), power32(b))
-}
-
-pub fn sqrt32(x: f32) -> f32
-    ensures { result ≡ sqrt_of binary32 x }
-{
-    let r = prepared32(x);
-    match r {
-        Radicand::Itself => x,
-        Radicand::Negative => 0.0 / 0.0,
-        Radicand::Digits(d, p) => sqrt32_finite(d, p),
+        Radicand::Negative => F::not_a_number(),
+        Radicand::Digits(d, p) => F::finite_root(d, p),
     }
 }

@@ -5,7 +5,7 @@ ghost use Rattle.std.specs.Prelude.{◌≡◌, ◌+◌, ◌<◌, ◌≤◌, leng
 ghost use Rattle.samples.specs.Samples.{still_finite, finite_of, tallied, is_at_end, overload_of, measured_of};
 ghost use Rattle.samples.specs.Inside.{is_inside, all_inside};
 
-use numbers::compare::is_finite32;
+use numbers::compare::is_finite;
 
 // Overload: the number of samples with a part at an end or beyond it, where all parts are finite.
 #[derive(Clone, Copy)]
@@ -53,7 +53,7 @@ fn overloads(samples: &[f32]) -> u32
 fn still_finite(before: bool, real: f32, imaginary: f32) -> bool
     ensures { result ≡ still_finite before real imaginary }
 {
-    before & (is_finite32(real) & is_finite32(imaginary))
+    before & (is_finite(real) & is_finite(imaginary))
 }
 
 fn all_finite(samples: &[f32]) -> bool

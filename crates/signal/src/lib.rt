@@ -14,7 +14,6 @@ mod rows;
 use complex::Complex32;
 use numbers::compare::{abs, is_finite};
 use numbers::narrow::{narrow, widen};
-use patterns::least_usize;
 use plain::{Power, are_plain, is_common, power_run};
 use roots::sqrt;
 use rows::write_run;
@@ -123,7 +122,7 @@ fn power_sum(real: &[f32; POINTS], imaginary: &[f32; POINTS], start: usize, coun
     requires count_bound { count ≤ 1024 }
     ensures { PowerOf real.now imaginary.now start count result }
 {
-    let first = least_usize(count, POINTS - start);
+    let first = count.min(POINTS - start);
     let none = Power {
         sum: 0.0,
         across: 0xffff_ffff,
@@ -195,7 +194,7 @@ fn write_plain(
     ensures { ReadsPoints real imaginary start count (λ points. LeavesFloats output (λ before after.
         ◌≡◌ {A = WrittenPoints} (record { errors = result; output = after }) (written_of amplitude points before))) }
 {
-    let first = least_usize(count, POINTS - start);
+    let first = count.min(POINTS - start);
     let early = write_run(
         real,
         imaginary,
@@ -262,7 +261,7 @@ pub fn read(
     ensures { Reads place real imaginary (λ view. LeavesFloats output (λ before after.
         ◌≡◌ {A = Read} (record { reading = result; output = after }) (read_of view before))) }
 {
-    let count = least_usize(place.count, output.len() / 2);
+    let count = place.count.min(output.len() / 2);
     let start = (place.head + POINTS - count) % POINTS;
     let powers = power_sum(real, imaginary, start, count);
     let plain = are_plain(powers);

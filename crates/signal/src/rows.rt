@@ -13,7 +13,6 @@ ghost use Rattle.signal.specs.Rows.{UsualRow, point_put, divide_turn, error_turn
 
 use super::POINTS;
 use super::plain::{error, narrow, quotient};
-use patterns::least_usize;
 
 // The points of a row.
 const ROW: usize = 32;
@@ -139,7 +138,7 @@ pub fn write_run(
         count output.old }
 {
     let mut row = [0.0; QUOTIENTS];
-    let first = least_usize(count, ROW);
+    let first = count.min(ROW);
     divide_row(real, imaginary, from, first, amplitude, &mut row);
     let mut sum = before;
     let mut at = 0;

@@ -1,2 +1,1 @@
 pub mod ToWhole
-pub mod Integers

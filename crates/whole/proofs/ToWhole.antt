@@ -19,7 +19,7 @@ use Rattle.patterns.specs.Shift.{near_lt}
 use Rattle.numbers.specs.Laws.{ne_self}
 use Rattle.whole.specs.Fractions.{fraction_of}
 use Rattle.whole.specs.declared.Fraction.{Fraction}
-use Rattle.whole.specs.declared.Fraction.TheVariants.{Nothing, Parts}
+use Rattle.std.specs.Prelude.{Option, None, Some}
 
 -- ---- -x of a rounded value
 neg_odd : (d : ℕ) (s : Bool) (q k l : ℕ) → neg (odd d s q k l) ≡ odd d (not s) q k l
@@ -103,6 +103,11 @@ down_le f true d u h = go (2 ^ prec f) (d / u) (min 1 (d % u)) (div-le_self d u)
 
     go : (t q m : ℕ) → q ≤ d → m ≤ 1 → d < t → q + m ≤ t
     go t q m a b h = omega arith
+
+-- no format has more digits than binary64
+pub narrow_digits : (f : Format) (d : ℕ) → d < 2 ^ prec f → d < 2 ^ 53
+narrow_digits binary32 d h = omega (arith, h)
+narrow_digits binary64 d h = h
 
 -- and to the nearest
 pub even_le : (d u : ℕ) → d < 2 ^ 53 → 2 ≤ u → closest d u ≤ 2 ^ 53
@@ -205,54 +210,43 @@ module _ (f : Format) (x : Float) where
   abbrev bits : ℕ
   bits = to_bits f x
 
-  pub nothing_nan : ne x x ≡ true → Nothing ≡ fraction_of f x
-  unfolding fraction_of
-  nothing_nan h = rw (sym (ne_self x) ∙ h)
-
-  pub nothing_big : (p : ℕ) → ne x x ≡ false → p ≡ power_of f bits → low f ≤ p → Nothing ≡ fraction_of f x
-  unfolding fraction_of
-  nothing_big p h e l = rw (sym (ne_self x) ∙ h, is_true (leb (low f) (power_of f bits)) (le→leb (low f) (power_of f bits) (subst (λ (q : ℕ). low f ≤ q) e l)))
-
-  pub parts_small : (p d : ℕ) → ne x x ≡ false → p ≡ power_of f bits → p < low f → d ≡ digits_of f bits → Parts (leb (top f) bits) d (low f - p) ≡ fraction_of f x
-  unfolding fraction_of
-  parts_small p d h e l g =
-      rw (sym (ne_self x) ∙ h, is_false (leb (low f) (power_of f bits)) (lt→nleb (low f) (power_of f bits) (subst (λ (q : ℕ). q < low f) e l)))
-      (ap (λ (q : ℕ). Parts (leb (top f) bits) d (low f - q)) e ∙ ap (λ (q : ℕ). Parts (leb (top f) bits) q (low f - power_of f bits)) g)
+  abbrev parts : Option Fraction
+  parts = Some (record { negative = leb (top f) bits; digits = digits_of f bits; shift = low f - power_of f bits })
 
   -- the three ways to come by it
-  data Way : Fraction → Type 0 where
-    none : T (is_nan x) → Way Nothing
-    big : T (not (is_nan x)) → low f ≤ power_of f bits → Way Nothing
-    small : T (not (is_nan x)) → power_of f bits < low f → Way (Parts (leb (top f) bits) (digits_of f bits) (low f - power_of f bits))
+  data Way : Option Fraction → Type 0 where
+    none : T (is_nan x) → Way None
+    big : T (not (is_nan x)) → low f ≤ power_of f bits → Way None
+    small : T (not (is_nan x)) → power_of f bits < low f → Way parts
 
   way : Way (fraction_of f x)
   unfolding fraction_of
   way = go (is_nan x) (leb (low f) (power_of f bits)) none big small (leb→le (low f) (power_of f bits)) (nleb→lt (low f) (power_of f bits))
     where
-      go : (t u : Bool) → (T t → Way Nothing) → (T (not t) → low f ≤ power_of f bits → Way Nothing) → (T (not t) → power_of f bits < low f → Way (Parts (leb (top f) bits) (digits_of f bits) (low f - power_of f bits)))
+      go : (t u : Bool) → (T t → Way None) → (T (not t) → low f ≤ power_of f bits → Way None) → (T (not t) → power_of f bits < low f → Way parts)
           → (T u → low f ≤ power_of f bits) → (T (not u) → power_of f bits < low f)
-          → Way (cond t Nothing (cond u Nothing (Parts (leb (top f) bits) (digits_of f bits) (low f - power_of f bits))))
+          → Way (cond t None (cond u None parts))
       go true u a b c h k = a tt
       go false true a b c h k = b tt (h tt)
       go false false a b c h k = c tt (k tt)
 
   -- what the digits make, and that it is `whole_of`
-  abbrev pub made : (Bool → ℕ → ℕ → ℕ) → Fraction → Float
-  made g Nothing = x
-  made g (Parts s d shift) = round f s (g s d (2 ^ shift)) 1
+  abbrev pub made : (Bool → ℕ → ℕ → ℕ) → Option Fraction → Float
+  made g None = x
+  made g (Some r) = round f r.negative (g r.negative r.digits (2 ^ r.shift)) 1
 
   pub made_whole : (g : Bool → ℕ → ℕ → ℕ) → Rounding g → T (fits f x) → made g (fraction_of f x) ≡ whole_of g f x
   made_whole g R F = go (fraction_of f x) way
     where
-      go : (r : Fraction) → Way r → made g r ≡ whole_of g f x
+      go : (r : Option Fraction) → Way r → made g r ≡ whole_of g f x
       go r (none n) = whole_nan g f x (ne_self x ∙ is_true (is_nan x) n)
       go r (big n l) = whole_big g R f x F n l
       go r (small n l) = whole_small g R f x F (small_field f bits l) l
 
   -- the digits fit the format, and some are below the point
-  abbrev pub Bounded : Fraction → Type 0
-  Bounded Nothing = Unit
-  Bounded (Parts s d shift) = (d < 2 ^ prec f) × (0 < shift)
+  abbrev pub Bounded : Option Fraction → Type 0
+  Bounded None = Unit
+  Bounded (Some r) = (r.digits < 2 ^ prec f) × (0 < r.shift)
 
   pub bounded : Bounded (fraction_of f x)
   bounded = go (fraction_of f x) way
@@ -260,17 +254,17 @@ module _ (f : Format) (x : Float) where
       more : (a b : ℕ) → b < a → 0 < a - b
       more a b h = omega arith
 
-      go : (r : Fraction) → Way r → Bounded r
+      go : (r : Option Fraction) → Way r → Bounded r
       go r (none n) = tt
       go r (big n l) = tt
       go r (small n l) = (digits_lt f bits, more (low f) (power_of f bits) l)
 
   -- the same, from what a match learns
-  pub made_nothing : (g : Bool → ℕ → ℕ → ℕ) → Rounding g → T (fits f x) → fraction_of f x ≡ Nothing → x ≡ whole_of g f x
+  pub made_nothing : (g : Bool → ℕ → ℕ → ℕ) → Rounding g → T (fits f x) → fraction_of f x ≡ None → x ≡ whole_of g f x
   made_nothing g R F h = sym (ap (made g) h) ∙ made_whole g R F
 
-  pub made_parts : (g : Bool → ℕ → ℕ → ℕ) → Rounding g → T (fits f x) → (s : Bool) (d shift : ℕ) → fraction_of f x ≡ Parts s d shift → round f s (g s d (2 ^ shift)) 1 ≡ whole_of g f x
-  made_parts g R F s d shift h = sym (ap (made g) h) ∙ made_whole g R F
+  pub made_parts : (g : Bool → ℕ → ℕ → ℕ) → Rounding g → T (fits f x) → (r : Fraction) → fraction_of f x ≡ Some r → round f r.negative (g r.negative r.digits (2 ^ r.shift)) 1 ≡ whole_of g f x
+  made_parts g R F r h = sym (ap (made g) h) ∙ made_whole g R F
 
-  pub parts_bounded : (s : Bool) (d shift : ℕ) → fraction_of f x ≡ Parts s d shift → (d < 2 ^ prec f) × (0 < shift)
-  parts_bounded s d shift h = subst Bounded h bounded
+  pub parts_bounded : (r : Fraction) → fraction_of f x ≡ Some r → (r.digits < 2 ^ prec f) × (0 < r.shift)
+  parts_bounded r h = subst Bounded h bounded

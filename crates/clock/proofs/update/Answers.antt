@@ -13,4 +13,4 @@ loop-turn-preserved c = turns_step _ _ _ _ c.loop-turn.invariant
 
 pub returns : goal.returns
 unfolding of_bits neg
-returns c = update_is _ _ _ _ _ _ c.loop-turn.invariant (search rules) (search rules) c.clamp32.ensures
+returns c = update_is _ _ _ _ _ _ c.loop-turn.invariant (search rules) (search rules) c.clamp.ensures

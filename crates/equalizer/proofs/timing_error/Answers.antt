@@ -6,7 +6,7 @@ pub returns-then-reliable : goal.returns-then-reliable
 unfolding timing_error_of
 returns-then-reliable c =
     let sure = c.if-reliable.true in
-    rw sure c.clamp32.ensures
+    rw sure c.clamp.ensures
 
 pub returns-else-reliable : goal.returns-else-reliable
 unfolding timing_error_of

@@ -4,12 +4,12 @@ use Rattle.front.proofs.several.Goals as goal
 
 pub returns-then-run-needed : goal.returns-then-run-needed
 returns-then-run-needed c =
-    let least = c.least_usize-run in
+    let least = c.min-run in
     let gather = c.gather-g in
     waits_is _ _ _ _ c.requires.admitted c.requires.lt_decimation _ _ _ least.ensures gather.ensures c.if-run-needed.true
 
 pub returns : goal.returns
 returns c =
-    let least = c.least_usize-run in
+    let least = c.min-run in
     let gather = c.gather-g in
     whole_is _ _ _ _ c.requires.admitted c.requires.lt_decimation _ _ _ least.ensures gather.ensures _ c.if-run-needed.false c.decimate-e.ensures

@@ -5,7 +5,7 @@ use Rattle.lms_tracker.proofs.limit_taps.Goals as goal
 pub returns-then-norm : goal.returns-then-norm
 returns-then-norm c =
     let above = c.if-norm.true in
-    let root = c.sqrt32-gain.ensures in
+    let root = c.sqrt-gain.ensures in
     record { real_after = limit_yes _ _ _ _ _ above root c.scale.ensures; imaginary_after = limit_yes _ _ _ _ _ above root c.scale-then-norm.ensures }
 
 pub returns-else-norm : goal.returns-else-norm

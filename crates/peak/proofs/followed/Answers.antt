@@ -1,4 +1,4 @@
--- `peak::followed` meets its contract: it is what `max32` answers.
+-- `peak::followed` meets its contract: it is what `max` answers.
 use Rattle.peak.specs.Peak.{followed_of}
 use Rattle.peak.proofs.followed.Goals as goal
 

@@ -1,4 +1,4 @@
--- `peak::gain` meets its contract: it is what the two calls of `max32` answer, in the definition's formula.
+-- `peak::gain` meets its contract: it is what the two calls of `max` answer, in the definition's formula.
 use Rattle.peak.specs.Peak.{gain_of}
 use Rattle.peak.proofs.gain.Goals as goal
 

@@ -7,11 +7,11 @@ loop-left-init c = c.requires
 
 pub read_row-requires : goal.read_row-requires
 read_row-requires c =
-    omega (arith, c.least-made.ensures)
+    omega (arith, c.min-made.ensures)
 
 pub row-c-requires : goal.row-c-requires
 row-c-requires c =
-    record { given = c.loop-left.invariant; symbols_bound = omega (arith, c.if-p-gt9007199254740000.false); made_bound = omega (arith, c.least-made.ensures); before_bound = omega (arith, c.least-before.ensures) }
+    record { given = c.loop-left.invariant; symbols_bound = omega (arith, c.if-p-gt9007199254740000.false); made_bound = omega (arith, c.min-made.ensures); before_bound = omega (arith, c.min-before.ensures) }
 
 pub overflow_sub-left : goal.overflow_sub-left
 overflow_sub-left c =

@@ -4,5 +4,5 @@ use mathlib.Core.Bool.{Bool, not}
 use lib.Dec.{T}
 use Rattle.replay_front.proofs.number.Goals as goal
 
-pub returns-else-is_nan32 : goal.returns-else-is_nan32
-returns-else-is_nan32 c = subst (λ (b : Bool). T (not b)) (sym c.if-is_nan32.false ∙ c.is_nan32.ensures) tt
+pub returns-else-is_nan : goal.returns-else-is_nan
+returns-else-is_nan c = subst (λ (b : Bool). T (not b)) (sym c.if-is_nan.false ∙ c.is_nan.ensures) tt

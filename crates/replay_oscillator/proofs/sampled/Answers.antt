@@ -5,7 +5,7 @@ use Rattle.oscillator.specs.Laws.{number, still_below}
 use Rattle.replay_oscillator.proofs.sampled.Goals as goal
 
 pub stepped-s-requires : goal.stepped-s-requires
-stepped-s-requires c = (number _ (sym c.is_nan32.ensures ∙ c.if-is_nan32.false) (sym c.is_nan32-2.ensures ∙ c.if-is_nan32-2.false), search rules)
+stepped-s-requires c = (number _ (sym c.is_nan.ensures ∙ c.if-is_nan.false) (sym c.is_nan-2.ensures ∙ c.if-is_nan-2.false), search rules)
 
 pub returns : goal.returns
 returns c =

@@ -19,4 +19,4 @@ loop-table-smaller c = c.turned-q.ensures.less
 
 pub loop-table-preserved : goal.loop-table-preserved
 loop-table-preserved c =
-    (refl, moves_fit _ _ _ _ c.turned-q.ensures c.loop-table.invariant.1, omega (arith, c.least_usize.ensures, c.loop-table.invariant.2), search rules)
+    (refl, moves_fit _ _ _ _ c.turned-q.ensures c.loop-table.invariant.1, omega (arith, c.min.ensures, c.loop-table.invariant.2), search rules)

@@ -1,23 +1,26 @@
 -- `sqrt` meets its contract: the number itself, a NaN, or the root of its digits.
-use Rattle.std.proofs.Common.{T, sym, ◌∙◌, subst}
-use lib.Ieee.{binary64, of_bits, div, fits}
+use Rattle.std.proofs.Common.{sym, ◌∙◌}
 use Rattle.roots.specs.declared.Radicand.TheVariants.{Itself, Negative, Digits}
 use Rattle.roots.proofs.Rooting.{root_made, root_bounded}
 use Rattle.roots.proofs.sqrt.Goals as goal
 
-pub sqrt_finite-requires : goal.sqrt_finite-requires
-sqrt_finite-requires c =
-    let bounds = root_bounded binary64 c.args.x (subst T (sym c.well_formed.0.1) tt) (Digits c.in-Digits.d c.in-Digits.p) (sym c.prepared-r.ensures ∙ c.in-Digits.is) in
+pub finite_root-requires : goal.finite_root-requires
+finite_root-requires g c =
+    let w = g.F.Width in
+    let bounds = root_bounded w.format (w.number c.args.x) c.prepared.ensures.held (Digits c.in-Digits.d c.in-Digits.p) (sym c.prepared.ensures.value ∙ c.in-Digits.is) in
     record { d_nonzero = bounds.0; d_bound = bounds.1.0; p_bound = bounds.1.1 }
 
 pub returns-in-Itself : goal.returns-in-Itself
-returns-in-Itself c = root_made binary64 c.args.x (subst T (sym c.well_formed.0.1) tt) Itself (sym c.prepared-r.ensures ∙ c.in-Itself.is)
+returns-in-Itself g c =
+    let w = g.F.Width in
+    root_made w.format (w.number c.args.x) c.prepared.ensures.held Itself (sym c.prepared.ensures.value ∙ c.in-Itself.is)
 
 pub returns-in-Negative : goal.returns-in-Negative
-unfolding of_bits div
-returns-in-Negative c = root_made binary64 c.args.x (subst T (sym c.well_formed.0.1) tt) Negative (sym c.prepared-r.ensures ∙ c.in-Negative.is)
+returns-in-Negative g c =
+    let w = g.F.Width in
+    c.not_a_number.ensures ∙ root_made w.format (w.number c.args.x) c.prepared.ensures.held Negative (sym c.prepared.ensures.value ∙ c.in-Negative.is)
 
 pub returns-in-Digits : goal.returns-in-Digits
-returns-in-Digits c =
-    c.sqrt_finite.ensures
-    ∙ root_made binary64 c.args.x (subst T (sym c.well_formed.0.1) tt) (Digits c.in-Digits.d c.in-Digits.p) (sym c.prepared-r.ensures ∙ c.in-Digits.is)
+returns-in-Digits g c =
+    let w = g.F.Width in
+    c.finite_root.ensures ∙ root_made w.format (w.number c.args.x) c.prepared.ensures.held (Digits c.in-Digits.d c.in-Digits.p) (sym c.prepared.ensures.value ∙ c.in-Digits.is)

@@ -2,4 +2,4 @@
 use Rattle.samples.proofs.still_finite.Goals as goal
 
 pub returns : goal.returns
-returns c = rw (c.is_finite32-2.ensures, c.is_finite32.ensures)
+returns c = rw (c.is_finite-2.ensures, c.is_finite.ensures)

@@ -3,4 +3,4 @@ use Rattle.signal.proofs.Windows.{power_runs}
 use Rattle.signal.proofs.power_sum.Goals as goal
 
 pub returns : goal.returns
-returns c = power_runs c.args.start c.args.count _ c.requires.start_bound c.requires.count_bound c.least_usize-first.ensures _ _ _ _ c.power_run-early.ensures c.power_run.ensures
+returns c = power_runs c.args.start c.args.count _ c.requires.start_bound c.requires.count_bound c.min-first.ensures _ _ _ _ c.power_run-early.ensures c.power_run.ensures

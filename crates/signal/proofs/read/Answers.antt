@@ -11,7 +11,7 @@ write-sum-requires c =
 
 pub returns-then-is_usable : goal.returns-then-is_usable
 returns-then-is_usable c =
-    let is_least = c.least_usize-count.ensures in
+    let is_least = c.min-count.ensures in
     let is_power_sum = c.power_sum-powers.ensures in
     let is_mean = c.mean-power.ensures in
     let is_usable = c.is_usable.ensures in
@@ -23,6 +23,6 @@ returns-then-is_usable c =
 
 pub returns-else-is_usable : goal.returns-else-is_usable
 returns-else-is_usable c =
-    let is_least = c.least_usize-count.ensures in
+    let is_least = c.min-count.ensures in
     let is_power_sum = c.power_sum-powers.ensures in
     read_nothing _ _ _ _ _ _ is_least is_power_sum.sum c.mean-power.ensures c.is_usable.ensures c.if-is_usable.false

@@ -1,42 +1,29 @@
 -- `whole::floor` meets its contract: a value without digits below the point is whole, and every other one goes toward minus infinity.
-use Rattle.std.proofs.Common.{◌≡◌, ℕ, ◌^◌, ◌<◌, ◌≤◌, Bool, T, sym, ap, ◌∙◌, subst}
-use lib.Ieee.{Float, binary64, round, fits}
+use Rattle.std.proofs.Common.{ℕ, ◌^◌, ◌≤◌, sym, ap, ◌∙◌, subst}
+use Rattle.std.specs.Float.Ieee.{prec, round}
 use Rattle.whole.specs.Whole.{downward}
-use Rattle.whole.specs.Fractions.{fraction_of}
-use Rattle.whole.specs.declared.Fraction.TheVariants.{Parts}
-use Rattle.whole.proofs.ToWhole.{down_is, down_le, made_nothing, made_parts, parts_bounded}
+use Rattle.whole.proofs.ToWhole.{down_is, down_le, made_nothing, made_parts, narrow_digits, parts_bounded}
 use Rattle.whole.proofs.floor.Goals as goal
 
--- what the match learns
-module _ (c : goal.In-Parts) where
-  abbrev x : Float
-  x = c.args.x
-
-  abbrev s : Bool
-  s = c.in-Parts.s
-
-  abbrev d : ℕ
-  d = c.in-Parts.d
-
-  abbrev shift : ℕ
-  shift = c.in-Parts.shift
-
-  learnt : fraction_of binary64 x ≡ Parts s d shift
-  learnt = sym c.split.ensures ∙ c.in-Parts.is
-
-  fit : (d < 2 ^ 53) × (0 < shift)
-  fit = parts_bounded binary64 x s d shift learnt
-
 pub returns-in_default : goal.returns-in_default
-returns-in_default c = made_nothing binary64 c.args.x downward down_is (subst T (sym c.well_formed.0.1) tt) (sym c.split.ensures ∙ c.in_default.is)
+returns-in_default g c =
+    let w = g.F.Width in
+    made_nothing w.format (w.number c.args.x) downward down_is c.split.ensures.held (sym c.split.ensures.value ∙ c.in_default.is)
 
 pub shifted_down-requires : goal.shifted_down-requires
-shifted_down-requires c = (fit c).0
+shifted_down-requires g c =
+    let w = g.F.Width in
+    narrow_digits w.format c.in-Some.f.digits (parts_bounded w.format (w.number c.args.x) c.in-Some.f (sym c.split.ensures.value ∙ c.in-Some.is)).0
 
 pub signed-requires : goal.signed-requires
-signed-requires c = subst (λ (n : ℕ). n ≤ 2 ^ 53) (sym c.shifted_down.ensures) (down_le binary64 (s c.before) (d c.before) (2 ^ shift c.before) (fit c.before).0)
+signed-requires g c =
+    let w = g.F.Width in
+    let r = c.in-Some.f in
+    subst (λ (n : ℕ). n ≤ 2 ^ prec w.format) (sym c.shifted_down.ensures) (down_le w.format r.negative r.digits (2 ^ r.shift) (parts_bounded w.format (w.number c.args.x) r (sym c.split.ensures.value ∙ c.in-Some.is)).0)
 
 pub returns : goal.returns
-returns c =
-    let k = c.before.before in
-    c.signed.ensures ∙ ap (λ (n : ℕ). round binary64 (s k) n 1) c.shifted_down.ensures ∙ made_parts binary64 c.args.x downward down_is (subst T (sym c.well_formed.0.1) tt) (s k) (d k) (shift k) (learnt k)
+returns g c =
+    let w = g.F.Width in
+    c.signed.ensures
+    ∙ ap (λ (n : ℕ). round w.format c.in-Some.f.negative n 1) c.shifted_down.ensures
+    ∙ made_parts w.format (w.number c.args.x) downward down_is c.split.ensures.held c.in-Some.f (sym c.split.ensures.value ∙ c.in-Some.is)

@@ -4,4 +4,4 @@ use Rattle.answers.proofs.soft.byte.Goals as goal
 
 pub returns : goal.returns
 unfolding byte_of
-returns c = rw (c.to_u8.ensures, c.clamp32.ensures)
+returns c = rw (c.to_u8.ensures, c.clamp.ensures)

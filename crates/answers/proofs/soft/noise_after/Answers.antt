@@ -2,10 +2,10 @@
 use Rattle.answers.specs.Observed.{noise_after_of}
 use Rattle.answers.proofs.soft.noise_after.Goals as goal
 
-pub returns-then-reliable-is_finite32 : goal.returns-then-reliable-is_finite32
+pub returns-then-reliable-is_finite : goal.returns-then-reliable-is_finite
 unfolding noise_after_of
-returns-then-reliable-is_finite32 c = rw (← c.is_finite32.ensures, c.if-reliable-is_finite32.true, c.min32.ensures)
+returns-then-reliable-is_finite c = rw (← c.is_finite.ensures, c.if-reliable-is_finite.true, c.min.ensures)
 
-pub returns-else-reliable-is_finite32 : goal.returns-else-reliable-is_finite32
+pub returns-else-reliable-is_finite : goal.returns-else-reliable-is_finite
 unfolding noise_after_of
-returns-else-reliable-is_finite32 c = rw (← c.is_finite32.ensures, c.if-reliable-is_finite32.false)
+returns-else-reliable-is_finite c = rw (← c.is_finite.ensures, c.if-reliable-is_finite.false)

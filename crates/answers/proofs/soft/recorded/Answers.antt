@@ -8,4 +8,4 @@ returns c =
     let scale_is = c.scale-k.ensures in
     let eighth_turned_is = c.eighth_turned-product.ensures in
     let multiplied_conjugate_is = c.multiplied_conjugate.ensures in
-    rw (c.abs32-2.ensures, c.abs32.ensures, scale_is, eighth_turned_is, multiplied_conjugate_is)
+    rw (c.abs-2.ensures, c.abs.ensures, scale_is, eighth_turned_is, multiplied_conjugate_is)

@@ -4,4 +4,4 @@ use Rattle.answers.proofs.soft.scale.Goals as goal
 
 pub returns : goal.returns
 unfolding scale_of
-returns c = rw (c.max32.ensures, c.size-2.ensures, c.size.ensures)
+returns c = rw (c.max.ensures, c.size-2.ensures, c.size.ensures)

@@ -2,4 +2,4 @@
 use Rattle.least_squares.proofs.limits.is_usable.Goals as goal
 
 pub returns : goal.returns
-returns c = rw c.is_finite32.ensures
+returns c = rw c.is_finite.ensures

@@ -1,17 +1,45 @@
 -- `compare::abs` meets its contract: the pattern without its highest bit is the pattern of the size.
-use Rattle.std.proofs.Common.{T, sym, subst}
-use lib.Ieee.{binary64}
-use Rattle.numbers.specs.Laws.{abs_nan, abs_bits, abs_number, no_nan}
+use Rattle.std.specs.Prelude.{◌≡◌, ℕ, ◌*◌, ◌%◌, ◌≤◌, Bool, true, false, not, T, from_bits, to_bits, Float}
+use Rattle.std.proofs.Common.{refl, sym, ◌∙◌, subst, nltb→le, arith}
+use Rattle.std.specs.Float.{nan, inf, fin, Format, binary32, binary64}
+use Rattle.std.specs.Float.Ieee.{fits, hid, is_nan, ones, top}
+use Rattle.std.specs.Float.Ieee.Bits.{nan_bits_above}
+use Rattle.numbers.specs.Numbers.{abs_of}
+use Rattle.numbers.specs.Laws.{abs_bits, abs_number}
 use Rattle.numbers.proofs.compare.abs.Goals as goal
 
-pub float_to_bits-result : goal.float_to_bits-result
-float_to_bits-result c = no_nan c.args.x c.if-x.false
+kept : (x : Float) → is_nan x ≡ true → x ≡ abs_of x
+unfolding is_nan abs_of
+kept nan h = refl
+kept (inf s) h = absurd (subst T (sym h) tt)
+kept (fin s m e) h = absurd (subst T (sym h) tt)
 
-pub float_from_bits-result : goal.float_from_bits-result
-float_from_bits-result c = abs_number binary64 c.args.x (subst T (sym c.well_formed.0.1) tt) (no_nan c.args.x c.if-x.false)
+twice : (f : Format) (b : ℕ) → b % top f % top f ≡ b % top f
+twice binary32 b = omega arith
+twice binary64 b = omega arith
 
-pub returns-then-x : goal.returns-then-x
-returns-then-x c = abs_nan c.args.x c.if-x.true
+module _ (f : Format) (x : Float) (h : T (fits f x)) (n : is_nan x ≡ false) where
+  number : T (not (is_nan x))
+  number = rw n tt
 
-pub returns-else-x : goal.returns-else-x
-returns-else-x c = abs_bits binary64 c.args.x (subst T (sym c.well_formed.0.1) tt) (no_nan c.args.x c.if-x.false)
+  -- the size's pattern is at most the infinity's
+  low : to_bits f x % top f ≤ ones f * hid f
+  low =
+      let b = to_bits f x % top f in
+      subst (λ (r : ℕ). r ≤ ones f * hid f) (twice f (to_bits f x)) (nltb→le (ones f * hid f) (b % top f) (subst (λ (t : Bool). T (not t)) (nan_bits_above f b) (abs_number f x h number)))
+
+  size : from_bits f (to_bits f x % top f) ≡ abs_of x
+  size = abs_bits f x h number
+
+pub of_pattern-requires : goal.of_pattern-requires
+of_pattern-requires g c =
+    let w = g.F.Width in
+    rw (c.SIGN.ensures, g.met.F.Width.sign_is, c.pattern.ensures.value) (low w.format (w.number c.args.x) c.pattern.ensures.held (sym c.is_nan.ensures ∙ c.if-is_nan.false))
+
+pub returns-then-is_nan : goal.returns-then-is_nan
+returns-then-is_nan g c = kept (g.F.Width.number c.args.x) (sym c.is_nan.ensures ∙ c.if-is_nan.true)
+
+pub returns-else-is_nan : goal.returns-else-is_nan
+returns-else-is_nan g c =
+    let w = g.F.Width in
+    rw (c.of_pattern.ensures, c.SIGN.ensures, g.met.F.Width.sign_is, c.pattern.ensures.value) (size w.format (w.number c.args.x) c.pattern.ensures.held (sym c.is_nan.ensures ∙ c.if-is_nan.false))

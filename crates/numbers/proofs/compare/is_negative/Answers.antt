@@ -1,14 +1,19 @@
 -- `compare::is_negative` meets its contract: a NaN has no sign, and of every other value the pattern's highest bit is the sign.
-use Rattle.std.proofs.Common.{T, sym, subst}
-use lib.Ieee.{binary64}
-use Rattle.numbers.specs.Laws.{no_nan, sign_is, sign_nan}
+use Rattle.std.specs.Prelude.{◌≡◌, not, ◌&&◌, T, nat_le, to_bits, Float}
+use Rattle.std.proofs.Common.{refl}
+use Rattle.std.specs.Float.{nan, inf, fin, Format}
+use Rattle.std.specs.Float.Ieee.{fits, is_nan, top}
+use Rattle.numbers.specs.Numbers.{sign_of}
+use Rattle.numbers.specs.Laws.{sign_is}
 use Rattle.numbers.proofs.compare.is_negative.Goals as goal
 
-pub float_to_bits-result : goal.float_to_bits-result
-float_to_bits-result c = no_nan c.args.x c.if-x.false
+signed : (f : Format) (x : Float) → T (fits f x) → not (is_nan x) && nat_le (top f) (to_bits f x) ≡ sign_of x
+unfolding is_nan
+signed f nan h = unfold sign_of in refl
+signed f (inf s) h = sign_is f (inf s) h tt
+signed f (fin s m e) h = sign_is f (fin s m e) h tt
 
-pub returns-then-x : goal.returns-then-x
-returns-then-x c = sign_nan c.args.x c.if-x.true
-
-pub returns-else-x : goal.returns-else-x
-returns-else-x c = sign_is binary64 c.args.x (subst T (sym c.well_formed.0.1) tt) (no_nan c.args.x c.if-x.false)
+pub returns : goal.returns
+returns g c =
+    let w = g.F.Width in
+    rw (c.is_nan.ensures, c.SIGN.ensures, g.met.F.Width.sign_is, c.pattern.ensures.value) (signed w.format (w.number c.args.x) c.pattern.ensures.held)

@@ -11,7 +11,7 @@ divide_row-requires c =
 pub loop-at-init : goal.loop-at-init
 loop-at-init c =
     let a = c.args in
-    let d = divided a.real.now a.imaginary.now a.amplitude a.from c.least_usize-first.result _ _ (search rules) (search rules) c.divide_row.ensures in
+    let d = divided a.real.now a.imaginary.now a.amplitude a.from c.min-first.result _ _ (search rules) (search rules) c.divide_row.ensures in
     (search rules, refl, divided_fewer _ _ _ _ (a.from + 0) _ _ _ d (omega arith) (omega arith), turns_start _ _, turns_start _ _)
 
 pub exchange_row-sum-requires : goal.exchange_row-sum-requires
@@ -36,12 +36,12 @@ write_row-sum-requires c =
 
 pub divide_row-requires-2 : goal.divide_row-requires-2
 divide_row-requires-2 c =
-    let first = c.least_usize-first.result in
+    let first = c.min-first.result in
     let p = c.requires in let l = c.loop-at in record { count_bound = search rules; end_bound = search rules; plain_run = plain_within _ _ _ _ (l.at + first) _ _ p.plain_run refl (omega arith); plain_amplitude = p.plain_amplitude }
 
 pub write_row-requires : goal.write_row-requires
 write_row-requires c =
-    let first = c.least_usize-first.result in
+    let first = c.min-first.result in
     let a = c.args in
     let p = c.requires in let l = c.loop-at in
     let at = l.at + first in
@@ -53,7 +53,7 @@ returns c =
     let a = c.args in
     let l = c.loop-at in
     let v = l.invariant in
-    let first = c.least_usize-first.result in
+    let first = c.min-first.result in
     let at = l.at + first in
     let d = divided a.real.now a.imaginary.now a.amplitude (a.from + at) (a.count - at) _ _ (omega arith) v.2.size is_divide_row2 in
     let e : at + (a.count - at) ≡ a.count = omega arith in

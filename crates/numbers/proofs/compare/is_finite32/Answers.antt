@@ -1,8 +1,0 @@
--- `compare::is_finite32` meets its contract: only of a finite value is the difference from itself zero.
-use lib.Ieee.{binary32, of_bits}
-use Rattle.numbers.specs.Laws.{finite_is}
-use Rattle.numbers.proofs.compare.is_finite32.Goals as goal
-
-pub returns : goal.returns
-unfolding of_bits
-returns c = finite_is binary32 c.args.x
