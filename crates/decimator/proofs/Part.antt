@@ -4,8 +4,7 @@ use Rattle.std.proofs.Common.{mod-eq_of_lt, add-one, arith, ◌∙◌}
 use Rattle.std.proofs.Math.Path.{sym, ap, ap₂}
 use Rattle.std.proofs.Math.IntN.{+ℤ_idl, +ℤ_comm, -ℤ-+ℤ_cancel}
 use Rattle.laws.specs.Modulo.{modulo}
-use Rattle.decimator.specs.declared.Sums.{Sums}
-use Rattle.decimator.specs.declared.Delays.{Delays}
+use Rattle.decimator.specs.declared.Stages.{Stages}
 use Rattle.numbers.specs.Bits.{signed_of}
 use Rattle.decimator.specs.Decimator.{wrap_add, wrap_sub, integrated_of, combed_of}
 use Rattle.decimator.specs.Demand.{weighted, wrapped}
@@ -38,13 +37,13 @@ unfolding thrice
 thrice_total = total_is twice twice_total.none_yet
 
 -- the integrators after the history h
-pub record Summed (h : List ℤ) (s : Sums) : Type 0 where
+pub record Summed (h : List ℤ) (s : Stages) : Type 0 where
   pub first_sum : s.first ≡ bits (once h)
   pub second_sum : s.second ≡ bits (twice h)
   pub third_sum : s.third ≡ bits (thrice h)
 
 -- what one part holds after the history h, the last output being `since` samples old: of the delays, what the last `level` outputs have renewed
-pub record PartHolds (d level since : ℕ) (h : List ℤ) (s : Sums) (y : Delays) : Type 0 where
+pub record PartHolds (d level since : ℕ) (h : List ℤ) (s : Stages) (y : Stages) : Type 0 where
   pub sums : Summed h s
   pub first_delay : 1 ≤ level → y.first ≡ bits (thrice (drop since h))
   pub second_delay : 2 ≤ level → y.second ≡ bits (box d twice (drop since h))
@@ -58,7 +57,7 @@ grows {g} {f} t x h a b p q = ap₂ wrap_add p q ∙ wrap_add_lem (g h) (f (x �
 combs : {g f : List ℤ → ℤ} → Total g f → (d : ℕ) (h l : List ℤ) (a b : ℕ) → drop d h ≡ l → a ≡ bits (g h) → b ≡ bits (g l) → wrap_sub a b ≡ bits (box d f h)
 combs {g} {f} t d h l a b e p q = ap₂ wrap_sub p (q ∙ ap (λ (k : List ℤ). bits (g k)) (sym e)) ∙ wrap_sub_lem (g h) (g (drop d h)) (box d f h) (total_box t d h)
 
-module _ (d level since : ℕ) (h : List ℤ) (s : Sums) (y : Delays) (k : PartHolds d level since h s y) (x : ℤ) where
+module _ (d level since : ℕ) (h : List ℤ) (s : Stages) (y : Stages) (k : PartHolds d level since h s y) (x : ℤ) where
   summed : Summed (x ∷ h) (integrated_of s x)
   unfolding integrated_of
   summed =
@@ -133,12 +132,12 @@ kept_fresh d = record {
 }
 
 -- any sums are those of some history of three samples
-pub record Words (s : Sums) : Type 0 where
+pub record Words (s : Stages) : Type 0 where
   pub first_word : s.first < 2 ^ 64
   pub second_word : s.second < 2 ^ 64
   pub third_word : s.third < 2 ^ 64
 
-module _ (s : Sums) where
+module _ (s : Stages) where
   p : ℤ
   p = pos s.first
 
@@ -207,7 +206,7 @@ module _ (s : Sums) where
   unfolding modulo
   own_bits n z l e = sym (mod-eq_of_lt l) ∙ ap bits (sym e)
 
-  pub kept_any : (d since : ℕ) (y : Delays) → Words s → PartHolds d 0 since (latest ∷ middle ∷ oldest ∷ []) s y
+  pub kept_any : (d since : ℕ) (y : Stages) → Words s → PartHolds d 0 since (latest ∷ middle ∷ oldest ∷ []) s y
   unfolding p q r
   kept_any d since y k = record {
     sums = record {

@@ -1,5 +1,5 @@
 -- Both parts over a row of samples: what the state holds after each, and what its raw outputs are. Assumes nothing.
-use Rattle.std.specs.Prelude.{◌≡◌, ℕ, zero, suc, ◌+◌, ◌*◌, ◌%◌, ◌<◌, ◌≤◌, Bool, true, false, cond, List, [], ◌∷◌, map, length, get_or, ℤ, pos, ◌==◌, nat_eq, nat_lt, slice_index_or, refl}
+use Rattle.std.specs.Prelude.{◌≡◌, ℕ, zero, suc, ◌+◌, ◌*◌, ◌%◌, ◌<◌, ◌≤◌, Bool, true, false, cond, List, [], ◌∷◌, map, length, get_or, ℤ, pos, ◌==◌, nat_eq, nat_lt, slice_index_or, refl, Option, Some, None}
 use Rattle.std.proofs.Common.{mod-eq_of_lt, le_of_mul-le-mul_right, sym, ◌∙◌, ⊎_elim, lt-ltb, le-ltb, ne_eqb}
 use Rattle.std.proofs.Math.Nat.{mod_self, add-mod_left}
 use native.Mathlib.Omega.{arith}
@@ -9,8 +9,6 @@ use Rattle.laws.specs.Ring.{lt_or_ge}
 use Rattle.decimator.specs.declared.Counts.{Counts}
 use Rattle.decimator.specs.declared.Decimator.{Decimator}
 use Rattle.decimator.specs.declared.Advance.{Advance}
-use Rattle.decimator.specs.declared.RawOutput.{RawOutput}
-use Rattle.decimator.specs.declared.RawOutput.TheVariants.{Silent, Sum}
 use Rattle.decimator.specs.Decimator.{absorbed_of, silent_of, sounded_of, advanced_of, raw_outputs_of}
 use Rattle.decimator.specs.Demand.{weighted, wrapped, no_counts}
 use Rattle.decimator.proofs.Boxes.{weighted_same}
@@ -32,12 +30,12 @@ pub record Holds (d level : ℕ) (h : List Counts) (s : Decimator) : Type 0 wher
   pub imaginary_part : PartHolds d level s.counter (imaginaries h) s.integrators.imaginary s.combs.imaginary
 
 -- the raw output that the history h asks for
-unfoldable pub said : ℕ → List Counts → RawOutput
-said d h = Sum (record { real = wrapped (weighted d (λ a. (get_or h a no_counts).real)); imaginary = wrapped (weighted d (λ a. (get_or h a no_counts).imaginary)) })
+unfoldable pub said : ℕ → List Counts → Option Counts
+said d h = Some (record { real = wrapped (weighted d (λ a. (get_or h a no_counts).real)); imaginary = wrapped (weighted d (λ a. (get_or h a no_counts).imaginary)) })
 
 -- what a step comes to: no output, or an output
 record Quiet (d level since : ℕ) (h : List Counts) (a : Advance) : Type 0 where
-  silent : a.raw ≡ Silent
+  silent : a.raw ≡ None
   later : a.decimator.counter ≡ since + 1
   holds : Holds d level h a.decimator
 
@@ -73,7 +71,7 @@ module _ (d level : ℕ) (h : List Counts) (s : Decimator) (k : Holds d level h 
       let full : s.counter + 1 ≡ d = let m = k.early in omega arith in
       let i = absorbed_of s.integrators x in
       subst (λ (t : Bool). Loud d level (x ∷ h) (cond t (silent_of s i) (sounded_of s i))) (sym e) (record {
-        sounds = λ m. λ j. Sum (record {
+        sounds = λ m. λ j. Some (record {
           real = (sounded_value d level s.counter (reals h) s.integrators.real s.combs.real k.real_part x.real full m ∙ ap wrapped (value_of (λ (n : Counts). n.real) (x ∷ h) refl)) j;
           imaginary = (sounded_value d level s.counter (imaginaries h) s.integrators.imaginary s.combs.imaginary k.imaginary_part x.imaginary full m ∙ ap wrapped (value_of (λ (n : Counts). n.imaginary) (x ∷ h) refl)) j;
         });
@@ -89,23 +87,23 @@ module _ (d level : ℕ) (h : List Counts) (s : Decimator) (k : Holds d level h 
 -- ---- rows
 
 -- the raw output at the n-th sample of a row: silent between outputs, and at an output, once three outputs have renewed the delays, what the history asks for
-abbrev pub expected : ℕ → ℕ → List Counts → RawOutput
-expected d t h = cond (t % d == 0) (said d h) Silent
+abbrev pub expected : ℕ → ℕ → List Counts → Option Counts
+expected d t h = cond (t % d == 0) (said d h) None
 
-expected_none : (d t : ℕ) (h : List Counts) → 0 < t → t < d → Silent ≡ expected d t h
+expected_none : (d t : ℕ) (h : List Counts) → 0 < t → t < d → None ≡ expected d t h
 expected_none d t h p l =
     let e : t % d ≡ t = mod-eq_of_lt l in
-    ap (λ (b : Bool). cond b (said d h) Silent) (sym (ap (λ (r : ℕ). nat_eq r 0) e ∙ ne_eqb t 0 (λ z. omega arith)))
+    ap (λ (b : Bool). cond b (said d h) None) (sym (ap (λ (r : ℕ). nat_eq r 0) e ∙ ne_eqb t 0 (λ z. omega arith)))
 
 expected_some : (d t : ℕ) (h : List Counts) → t % d ≡ 0 → said d h ≡ expected d t h
-expected_some d t h e = ap (λ (b : Bool). cond b (said d h) Silent) (sym (ap (λ (r : ℕ). nat_eq r 0) e))
+expected_some d t h e = ap (λ (b : Bool). cond b (said d h) None) (sym (ap (λ (r : ℕ). nat_eq r 0) e))
 
 renewed : (d level : ℕ) → 0 < d → 4 * d ≤ level * d + d → 3 ≤ level
 renewed d level D h = le_of_mul-le-mul_right (let g : 3 * d ≤ level * d = omega arith in g) D
 
 pub raw_output_at : (d : ℕ) → 0 < d → (xs : List Counts) (n level : ℕ) (h : List Counts) (s : Decimator) → Holds d level h s → n < length xs
     → ((s.counter + n + 1) % d ≡ 0 → 4 * d ≤ level * d + (s.counter + n + 1))
-    → slice_index_or (raw_outputs_of s xs) n Silent ≡ expected d (s.counter + n + 1) (past h xs n)
+    → slice_index_or (raw_outputs_of s xs) n None ≡ expected d (s.counter + n + 1) (past h xs n)
 unfolding raw_outputs_of past
 raw_output_at d D [] n level h s k l g = absurd (omega arith)
 raw_output_at d D (x ∷ xs) zero level h s k l g =
@@ -131,5 +129,5 @@ raw_output_at d D (x ∷ xs) (suc n) level h s k l g =
     let f : d + (a.counter + n + 1) ≡ t = ap (λ (c : ℕ). d + (c + n + 1)) q.anew ∙ (let b = k.early in let f : d + (0 + n + 1) ≡ t = omega arith in f) in
     let e : (a.counter + n + 1) % d ≡ t % d = sym (add-mod_left d (a.counter + n + 1)) ∙ ap (λ (u : ℕ). u % d) f in
     raw_output_at d D xs n (suc level) (x ∷ h) a q.holds (omega arith) (λ z. let b = g (sym e ∙ z) in let c : suc level * d ≡ level * d + d = omega arith in omega arith)
-    ∙ ap (λ (r : ℕ). cond (r == 0) (said d (past (x ∷ h) xs n)) Silent) e)
+    ∙ ap (λ (r : ℕ). cond (r == 0) (said d (past (x ∷ h) xs n)) None) e)
     (lt_or_ge (s.counter + 1) d)

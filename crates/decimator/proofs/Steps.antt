@@ -6,8 +6,7 @@ use Rattle.std.specs.Float.Ieee.{in_float}
 use Rattle.std.specs.Int.Signed.{mag}
 use Rattle.laws.specs.Modulo.{modulo}
 use Rattle.numbers.specs.Bits.{signed_of, unsigned_of}
-use Rattle.decimator.specs.declared.Sums.{Sums}
-use Rattle.decimator.specs.declared.Delays.{Delays}
+use Rattle.decimator.specs.declared.Stages.{Stages}
 use Rattle.decimator.specs.declared.Difference.{Difference}
 use Rattle.decimator.specs.Decimator.{wrap_add, wrap_sub, integrated_of, combed_of}
 use Rattle.decimator.proofs.Residues.{only_one}
@@ -21,8 +20,8 @@ bits_modulo (negsuc n) h =
     let f : 2 ^ 64 - 1 - n ≡ 2 ^ 64 - suc n = omega arith in
     f ∙ ap (λ (m : ℕ). 2 ^ 64 - suc m) (sym e)
 
-pub integrated_is : (s : Sums) (n : ℤ) (e a b c : ℕ) → mag n < 2 ^ 63 → e ≡ unsigned_of n → a ≡ wrap_add s.first e → b ≡ wrap_add s.second a → c ≡ wrap_add s.third b
-    → ◌≡◌ {A = Sums} (record { first = a; second = b; third = c }) (integrated_of s n)
+pub integrated_is : (s : Stages) (n : ℤ) (e a b c : ℕ) → mag n < 2 ^ 63 → e ≡ unsigned_of n → a ≡ wrap_add s.first e → b ≡ wrap_add s.second a → c ≡ wrap_add s.third b
+    → ◌≡◌ {A = Stages} (record { first = a; second = b; third = c }) (integrated_of s n)
 unfolding integrated_of
 integrated_is s n e a b c h pe pa pb pc =
     let qa : a ≡ wrap_add s.first (modulo (2 ^ 64) n) = pa ∙ ap (wrap_add s.first) (pe ∙ bits_modulo n h) in
@@ -42,7 +41,7 @@ sub_is a b r A B R e =
     go r b a z k m l n M B e x y w = omega arith
 
 -- the words of the combs, each below 2 ^ 64
-pub record Differences (y : Delays) (sum a b c : ℕ) : Type 0 where
+pub record Differences (y : Stages) (sum a b c : ℕ) : Type 0 where
   pub sum_word : sum < 2 ^ 64
   pub first_word : y.first < 2 ^ 64
   pub second_word : y.second < 2 ^ 64
@@ -51,7 +50,7 @@ pub record Differences (y : Delays) (sum a b c : ℕ) : Type 0 where
   pub b_word : b < 2 ^ 64
   pub c_word : c < 2 ^ 64
 
-pub combed_is : (y : Delays) (sum a b c : ℕ) (v : ℤ) → Differences y sum a b c
+pub combed_is : (y : Stages) (sum a b c : ℕ) (v : ℤ) → Differences y sum a b c
     → (a + y.first) % 2 ^ 64 ≡ sum → (b + y.second) % 2 ^ 64 ≡ a → (c + y.third) % 2 ^ 64 ≡ b → v ≡ signed_of c
     → ◌≡◌ {A = Difference} (record { delays = record { first = sum; second = a; third = b }; value = v }) (combed_of y sum)
 unfolding combed_of

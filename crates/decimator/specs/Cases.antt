@@ -1,13 +1,11 @@
 -- The worked examples P1 to P8 (docs/SPECIFICATION.md): one table, and one proof that the definitions give it. Assumes nothing.
-use Rattle.std.specs.Prelude.{◌≡◌, ℕ, ◌-◌, ◌*◌, ◌^◌, true, false, List, [], ◌∷◌, map, ℤ, pos, negsuc, neg_ℤ, refl, Float}
+use Rattle.std.specs.Prelude.{◌≡◌, ℕ, ◌-◌, ◌*◌, ◌^◌, true, false, List, [], ◌∷◌, map, ℤ, pos, negsuc, neg_ℤ, refl, Float, Option, Some, None}
 use Rattle.std.specs.Float.{nan, inf, fin}
 use Rattle.std.specs.Float.Ieee.{mul, of_bits, to_signed}
 use Rattle.laws.specs.Places.{upto}
 use Rattle.laws.specs.Modulo.{modulo}
 use Rattle.whole.specs.Whole.{whole_of}
 use Rattle.decimator.specs.declared.Counts.{Counts}
-use Rattle.decimator.specs.declared.RawOutput.{RawOutput}
-use Rattle.decimator.specs.declared.RawOutput.TheVariants.{Silent, Sum}
 use Rattle.decimator.specs.Decimator.{quantised_of, fresh_of, integrated_of, combed_of, advanced_of, raw_outputs_of}
 use Rattle.decimator.specs.Demand.{weight}
 
@@ -15,10 +13,10 @@ use Rattle.decimator.specs.Demand.{weight}
 abbrev pub twin : ℤ → Counts
 twin n = record { real = n; imaginary = n }
 
-abbrev pub sums : List RawOutput → List Counts
+abbrev pub sums : List (Option Counts) → List Counts
 sums [] = []
-sums (Silent ∷ raw) = sums raw
-sums (Sum n ∷ raw) = n ∷ sums raw
+sums (None ∷ raw) = sums raw
+sums (Some n ∷ raw) = n ∷ sums raw
 
 pub data Case : Type 0 where
   -- decimating by d from fresh, these samples in both parts give these outputs

@@ -1,10 +1,8 @@
 -- What the decimator's raw outputs are to be: the latest 3d - 2 samples, weighted by their age. Definitions only.
-use Rattle.std.specs.Prelude.{ℕ, zero, suc, ◌+◌, ◌-◌, ◌*◌, ◌%◌, ◌^◌, Bool, cond, List, length, ℤ, pos, ◌+ℤ◌, ◌*ℤ◌, ◌==◌, nat_le, slice_index_or}
+use Rattle.std.specs.Prelude.{ℕ, zero, suc, ◌+◌, ◌-◌, ◌*◌, ◌%◌, ◌^◌, Bool, cond, List, length, ℤ, pos, ◌+ℤ◌, ◌*ℤ◌, ◌==◌, nat_le, slice_index_or, Option, Some, None}
 use Rattle.laws.specs.Places.{upto}
 use Rattle.laws.specs.Modulo.{modulo}
 use Rattle.decimator.specs.declared.Counts.{Counts}
-use Rattle.decimator.specs.declared.RawOutput.{RawOutput}
-use Rattle.decimator.specs.declared.RawOutput.TheVariants.{Silent, Sum}
 use Rattle.numbers.specs.Bits.{signed_of}
 
 -- f 0 + f 1 + .. + f (n - 1)
@@ -46,13 +44,13 @@ abbrev pub sums_at : ℕ → List Counts → ℕ → Counts
 sums_at d xs n = record { real = weighted d (λ a. (ago xs n a).real); imaginary = weighted d (λ a. (ago xs n a).imaginary) }
 
 -- the raw output there: silent but at every d-th sample
-unfoldable pub demanded : ℕ → List Counts → ℕ → RawOutput
+unfoldable pub demanded : ℕ → List Counts → ℕ → Option Counts
 unfolding weighted wrapped
 demanded d xs n =
     let s = sums_at d xs n in
-    cond ((n + 1) % d == 0) (Sum (record { real = wrapped s.real; imaginary = wrapped s.imaginary })) Silent
+    cond ((n + 1) % d == 0) (Some (record { real = wrapped s.real; imaginary = wrapped s.imaginary })) None
 
 -- the raw outputs of a row
-unfoldable pub demanded_row : ℕ → List Counts → List RawOutput
+unfoldable pub demanded_row : ℕ → List Counts → List (Option Counts)
 unfolding demanded upto
 demanded_row d xs = upto (demanded d xs) (length xs)

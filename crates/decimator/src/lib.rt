@@ -22,32 +22,19 @@ mod quantiser;
 // The largest decimation: that of 20,000,000 samples a second.
 const MOST: usize = 78;
 
-// The integrators of one part.
+// The three stages of one part: the integrators' sums, or what the combs met at the last output.
 #[derive(Clone, Copy)]
-pub struct Sums {
+pub struct Stages {
     pub first: u64,
     pub second: u64,
     pub third: u64,
 }
 
-// What the combs of one part met at the last output.
+// The stages of both parts.
 #[derive(Clone, Copy)]
-pub struct Delays {
-    pub first: u64,
-    pub second: u64,
-    pub third: u64,
-}
-
-#[derive(Clone, Copy)]
-pub struct Integrators {
-    pub real: Sums,
-    pub imaginary: Sums,
-}
-
-#[derive(Clone, Copy)]
-pub struct Combs {
-    pub real: Delays,
-    pub imaginary: Delays,
+pub struct Parts {
+    pub real: Stages,
+    pub imaginary: Stages,
 }
 
 // Both parts of a sample or of a sum, as whole numbers.
@@ -63,22 +50,15 @@ pub struct Counts {
 pub struct Decimator {
     pub decimation: usize,
     pub counter: usize,
-    pub integrators: Integrators,
-    pub combs: Combs,
+    pub integrators: Parts,
+    pub combs: Parts,
 }
 
 // What three combs make of a sum, and their delays after it.
 #[derive(Clone, Copy)]
 pub struct Difference {
-    pub delays: Delays,
+    pub delays: Stages,
     pub value: i64,
-}
-
-// An output before it is scaled: both combs' sums at every d-th sample, and nothing between.
-#[derive(Clone, Copy)]
-pub enum RawOutput {
-    Silent,
-    Sum(Counts),
 }
 
 // Both combs' sums at a d-th sample, and the decimator after it.
@@ -88,18 +68,12 @@ pub struct Release {
     pub sum: Counts,
 }
 
-// The decimator after a sample, and its output before it is scaled.
+// The decimator after a sample, and its output before it is scaled: both combs' sums at every d-th
+// sample, and nothing between.
 #[derive(Clone, Copy)]
 pub struct Advance {
     pub decimator: Decimator,
-    pub raw: RawOutput,
-}
-
-// A decimated value, or none yet.
-#[derive(Clone, Copy)]
-pub enum Output {
-    Nothing,
-    Value(Complex32),
+    pub raw: Option<Counts>,
 }
 
 // A decimated value, and the decimator after it.
@@ -109,38 +83,31 @@ pub struct Decimated {
     pub value: Complex32,
 }
 
-// The decimator after a sample, and its output.
+// The decimator after a sample, and its decimated value or none yet.
 #[derive(Clone, Copy)]
 pub struct Step {
     pub decimator: Decimator,
-    pub output: Output,
+    pub output: Option<Complex32>,
 }
 
 // Nothing has come in: every sum and delay is 0.
 pub fn fresh(decimation: usize) -> Decimator
     ensures { result ≡ fresh_of decimation }
 {
-    let none = Sums {
+    let none = Stages {
         first: 0,
         second: 0,
         third: 0,
     };
-    let still = Delays {
-        first: 0,
-        second: 0,
-        third: 0,
+    let nothing = Parts {
+        real: none,
+        imaginary: none,
     };
     Decimator {
         decimation,
         counter: 0,
-        integrators: Integrators {
-            real: none,
-            imaginary: none,
-        },
-        combs: Combs {
-            real: still,
-            imaginary: still,
-        },
+        integrators: nothing,
+        combs: nothing,
     }
 }
 
@@ -152,13 +119,13 @@ pub fn is_admitted(d: Decimator) -> bool
 }
 
 // The three integrators of one part after a number: each sum takes in the one before it.
-fn integrated(s: Sums, n: i64) -> Sums
+fn integrated(s: Stages, n: i64) -> Stages
     ensures { result ≡ integrated_of s n }
 {
     let first = wrapping_add_u64(s.first, unsigned(n));
     let second = wrapping_add_u64(s.second, first);
     let third = wrapping_add_u64(s.third, second);
-    Sums {
+    Stages {
         first,
         second,
         third,
@@ -166,14 +133,14 @@ fn integrated(s: Sums, n: i64) -> Sums
 }
 
 // The three combs of one part at an output: each takes off what it met at the output before.
-fn combed(y: Delays, sum: u64) -> Difference
+fn combed(y: Stages, sum: u64) -> Difference
     ensures { result ≡ combed_of y sum }
 {
     let second = wrapping_sub_u64(sum, y.first);
     let third = wrapping_sub_u64(second, y.second);
     let last = wrapping_sub_u64(third, y.third);
     Difference {
-        delays: Delays {
+        delays: Stages {
             first: sum,
             second,
             third,
@@ -193,38 +160,30 @@ fn counted(z: Complex32) -> Counts
 }
 
 // Both parts' integrators after a sample in whole numbers.
-fn absorbed(s: Integrators, n: Counts) -> Integrators
+fn absorbed(s: Parts, n: Counts) -> Parts
     ensures { result ≡ absorbed_of s n }
 {
-    let a = s.real;
-    let b = s.imaginary;
-    let real = integrated(a, n.real);
-    let imaginary = integrated(b, n.imaginary);
-    Integrators { real, imaginary }
+    Parts {
+        real: integrated(s.real, n.real),
+        imaginary: integrated(s.imaginary, n.imaginary),
+    }
 }
 
 // The combs at a d-th sample, its sums taken.
-fn released(d: Decimator, s: Integrators) -> Release
+fn released(d: Decimator, s: Parts) -> Release
     ensures { result ≡ released_of d s }
 {
-    let combs = d.combs;
-    let a = combs.real;
-    let b = combs.imaginary;
-    let x = s.real;
-    let y = s.imaginary;
-    let u = combed(a, x.third);
-    let v = combed(b, y.third);
-    let p = u.delays;
-    let q = v.delays;
+    let u = combed(d.combs.real, s.real.third);
+    let v = combed(d.combs.imaginary, s.imaginary.third);
     Release {
         decimator: Decimator {
-            decimation: d.decimation,
             counter: 0,
             integrators: s,
-            combs: Combs {
-                real: p,
-                imaginary: q,
+            combs: Parts {
+                real: u.delays,
+                imaginary: v.delays,
             },
+            ..d
         },
         sum: Counts {
             real: u.value,
@@ -234,15 +193,13 @@ fn released(d: Decimator, s: Integrators) -> Release
 }
 
 // The same as an `Advance`. Only `advanced` calls it, for tests.
-fn sounded(d: Decimator, s: Integrators) -> Advance
+fn sounded(d: Decimator, s: Parts) -> Advance
     ensures { result ≡ sounded_of d s }
 {
     let r = released(d, s);
-    let decimator = r.decimator;
-    let sum = r.sum;
     Advance {
-        decimator,
-        raw: RawOutput::Sum(sum),
+        decimator: r.decimator,
+        raw: Some(r.sum),
     }
 }
 
@@ -251,18 +208,15 @@ fn advanced(d: Decimator, n: Counts) -> Advance
     requires { d.counter < d.decimation }
     ensures { result ≡ advanced_of d n }
 {
-    let i = d.integrators;
-    let s = absorbed(i, n);
+    let s = absorbed(d.integrators, n);
     if d.counter + 1 < d.decimation {
-        let combs = d.combs;
         Advance {
             decimator: Decimator {
-                decimation: d.decimation,
                 counter: d.counter + 1,
                 integrators: s,
-                combs,
+                ..d
             },
-            raw: RawOutput::Silent,
+            raw: None,
         }
     } else {
         sounded(d, s)
@@ -299,33 +253,23 @@ fn scaled(decimation: usize, n: Counts) -> Complex32
     }
 }
 
-// The output, scaled. Only `stepped` calls it, for tests.
-fn delivered(decimation: usize, raw: RawOutput) -> Output
-    ensures { result ≡ output_of decimation raw }
-{
-    match raw {
-        RawOutput::Silent => Output::Nothing,
-        RawOutput::Sum(n) => Output::Value(scaled(decimation, n)),
-    }
-}
-
 // A sample into the integrators alone: the counter and the combs are the caller's, for runs of
 // samples between two outputs.
-pub fn gathered(s: Integrators, z: Complex32) -> Integrators
+pub fn gathered(s: Parts, z: Complex32) -> Parts
     ensures { result ≡ absorbed_of s (counts_of z) }
 {
     absorbed(s, counted(z))
 }
 
 // The value at a d-th sample, its sums taken.
-pub fn decimate(d: Decimator, s: Integrators) -> Decimated
+pub fn decimate(d: Decimator, s: Parts) -> Decimated
     ensures { result ≡ decimated_of d s }
 {
     let r = released(d, s);
-    let decimator = r.decimator;
-    let sum = r.sum;
-    let value = scaled(d.decimation, sum);
-    Decimated { decimator, value }
+    Decimated {
+        decimator: r.decimator,
+        value: scaled(d.decimation, r.sum),
+    }
 }
 
 // One sample, as the definition takes it: d = 1 passes it through. Only tests call it; the receiver
@@ -337,14 +281,14 @@ pub fn stepped(d: Decimator, z: Complex32) -> Step
 {
     if d.decimation > 1 {
         let a = advanced(d, counted(z));
-        let decimator = a.decimator;
-        let raw = a.raw;
-        let output = delivered(d.decimation, raw);
-        Step { decimator, output }
+        Step {
+            decimator: a.decimator,
+            output: a.raw.map(|sum| scaled(d.decimation, sum)),
+        }
     } else {
         Step {
             decimator: d,
-            output: Output::Value(z),
+            output: Some(z),
         }
     }
 }

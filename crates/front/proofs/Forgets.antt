@@ -3,7 +3,7 @@
 use Prim.Native.Nat.{ℕ, zero, suc, ◌+◌, ◌-◌, ◌*◌, ◌%◌, ◌≤◌, ◌<◌}
 use Rattle.std.proofs.Common.{add-mul, one-mul, mul-le-mul_right, le_of_mul-le-mul_right, add-one, ◌∙◌, lt-ltb, le-ltb}
 use native.Mathlib.Omega.{arith}
-use Rattle.std.specs.Prelude.{◌≡◌, Bool, cond, ltb, eqb, length, Float}
+use Rattle.std.specs.Prelude.{◌≡◌, Bool, cond, ltb, eqb, length, Float, Option, Some, None}
 use Rattle.std.proofs.Math.Path.{refl, sym, ap, subst}
 use Rattle.std.proofs.Math.Logic.{⊎_elim}
 use mathlib.Core.List.{List, [], ◌∷◌, ◌++◌, append_assoc, append-nil, map}
@@ -15,13 +15,10 @@ use Rattle.laws.specs.Ring.{latest, lt_or_ge}
 use Rattle.complex.specs.declared.Complex32.{Complex32}
 use Rattle.oscillator.specs.declared.Oscillator.{Oscillator}
 use Rattle.oscillator.specs.Oscillator.{turned_of, mixed_of}
+use Rattle.decimator.specs.declared.Counts.{Counts}
 use Rattle.decimator.specs.declared.Decimator.{Decimator}
-use Rattle.decimator.specs.declared.Integrators.{Integrators}
+use Rattle.decimator.specs.declared.Parts.{Parts}
 use Rattle.decimator.specs.declared.Advance.{Advance}
-use Rattle.decimator.specs.declared.RawOutput.{RawOutput}
-use Rattle.decimator.specs.declared.RawOutput.TheVariants.{Silent, Sum}
-use Rattle.decimator.specs.declared.Output.{Output}
-use Rattle.decimator.specs.declared.Output.TheVariants.{Nothing, Value}
 use Rattle.decimator.specs.declared.Step.{Step}
 use Rattle.decimator.specs.Decimator.{Counting, counts_of, scaled_of, absorbed_of, silent_of, sounded_of, released_of, advanced_of, raw_outputs_of, output_of, stepped_of, outputs_of}
 use Rattle.decimator.specs.Demand.{wrapped, sums_at}
@@ -36,16 +33,16 @@ use Rattle.front.specs.Admitted.{Admitted}
 
 -- ---- a decimator: when it sounds, and its counter
 pub record Quiet (u : Decimator) (z : Complex32) : Type 0 where
-  pub silent : (stepped_of u z).output ≡ Nothing
+  pub silent : (stepped_of u z).output ≡ None
   pub later : (stepped_of u z).decimator.counter ≡ u.counter + 1
 
 pub record Loud (u : Decimator) (z : Complex32) : Type 0 where
   pub value : Complex32
-  pub sounds : (stepped_of u z).output ≡ Value value
+  pub sounds : (stepped_of u z).output ≡ Some value
   pub anew : (stepped_of u z).decimator.counter ≡ 0
 
 module _ (u : Decimator) (z : Complex32) where
-  abbrev sums : Integrators
+  abbrev sums : Parts
   sums = absorbed_of u.integrators (counts_of z)
 
   abbrev finished : Bool → Step
@@ -94,7 +91,7 @@ unfolding dec_over
 over_last s [] z = refl
 over_last s (y ∷ zs) z = over_last (stepped_of s y).decimator zs z
 
-outputs_last : (s : Decimator) (zs : List Complex32) (z : Complex32) → get_or (outputs_of s (zs ++ (z ∷ []))) (length zs) Nothing ≡ (stepped_of (dec_over s zs) z).output
+outputs_last : (s : Decimator) (zs : List Complex32) (z : Complex32) → get_or (outputs_of s (zs ++ (z ∷ []))) (length zs) None ≡ (stepped_of (dec_over s zs) z).output
 unfolding outputs_of dec_over
 outputs_last s [] z = refl
 outputs_last s (y ∷ zs) z = outputs_last (stepped_of s y).decimator zs z
@@ -105,12 +102,12 @@ module _ (z : ℕ → Complex32) where
   over_upto s zero = refl
   over_upto s (suc n) = over_last s (upto z n) (z n) ∙ ap (λ (t : Decimator). (stepped_of t (z n)).decimator) (over_upto s n)
 
-  output_at_lem : (s : Decimator) (n : ℕ) → (stepped_of (dec_at z s n) (z n)).output ≡ get_or (outputs_of s (upto z (suc n))) n Nothing
+  output_at_lem : (s : Decimator) (n : ℕ) → (stepped_of (dec_at z s n) (z n)).output ≡ get_or (outputs_of s (upto z (suc n))) n None
   unfolding upto
   output_at_lem s n =
       ap (λ (t : Decimator). (stepped_of t (z n)).output) (sym (over_upto s n))
       ∙ sym (outputs_last s (upto z n) (z n))
-      ∙ ap (λ (k : ℕ). get_or (outputs_of s (upto z n ++ (z n ∷ []))) k Nothing) (length_upto z n)
+      ∙ ap (λ (k : ℕ). get_or (outputs_of s (upto z n ++ (z n ∷ []))) k None) (length_upto z n)
 
   -- d > 1: from the fourth output on the samples alone decide
   module _ (s t : Decimator) (e : s.decimation ≡ t.decimation) (f : s.counter ≡ t.counter) (k : s.counter < s.decimation) where
@@ -122,21 +119,21 @@ module _ (z : ℕ → Complex32) where
       short = rw (length-map zs counts_of, length_upto z (suc n)) (omega arith)
 
       -- what `recovers` says of both
-      both : ◌≡◌ {A = RawOutput}
-          (cond (eqb ((s.counter + n + 1) % s.decimation) 0) (Sum (record { real = wrapped (sums_at s.decimation (map counts_of zs) n).real; imaginary = wrapped (sums_at s.decimation (map counts_of zs) n).imaginary })) Silent)
-          (cond (eqb ((t.counter + n + 1) % t.decimation) 0) (Sum (record { real = wrapped (sums_at t.decimation (map counts_of zs) n).real; imaginary = wrapped (sums_at t.decimation (map counts_of zs) n).imaginary })) Silent)
-      both = λ i. cond (eqb ((f i + n + 1) % e i) 0) (Sum (record { real = wrapped (sums_at (e i) (map counts_of zs) n).real; imaginary = wrapped (sums_at (e i) (map counts_of zs) n).imaginary })) Silent
+      both : ◌≡◌ {A = Option Counts}
+          (cond (eqb ((s.counter + n + 1) % s.decimation) 0) (Some (record { real = wrapped (sums_at s.decimation (map counts_of zs) n).real; imaginary = wrapped (sums_at s.decimation (map counts_of zs) n).imaginary })) None)
+          (cond (eqb ((t.counter + n + 1) % t.decimation) 0) (Some (record { real = wrapped (sums_at t.decimation (map counts_of zs) n).real; imaginary = wrapped (sums_at t.decimation (map counts_of zs) n).imaginary })) None)
+      both = λ i. cond (eqb ((f i + n + 1) % e i) 0) (Some (record { real = wrapped (sums_at (e i) (map counts_of zs) n).real; imaginary = wrapped (sums_at (e i) (map counts_of zs) n).imaginary })) None
 
       same_above : Words s.integrators.real → Words s.integrators.imaginary → Words t.integrators.real → Words t.integrators.imaginary
           → 1 < s.decimation → 4 * s.decimation ≤ s.counter + n + 1 → (stepped_of (dec_at z s n) (z n)).output ≡ (stepped_of (dec_at z t n) (z n)).output
       unfolding output_of
       same_above sr si tr ti D l =
           output_at_lem s n
-          ∙ ap (λ (os : List Output). get_or os n Nothing) (outputs_above s.decimation D s (record { by = refl; early = k }) zs)
-          ∙ get_or-map (output_of s.decimation) (raw_outputs_of s (map counts_of zs)) n Silent
+          ∙ ap (λ (os : List (Option Complex32)). get_or os n None) (outputs_above s.decimation D s (record { by = refl; early = k }) zs)
+          ∙ get_or-map (output_of s.decimation) (raw_outputs_of s (map counts_of zs)) n None
           ∙ ap (output_of s.decimation) (recovers s sr si k (map counts_of zs) n short l ∙ both ∙ sym (recovers t tr ti (omega arith) (map counts_of zs) n short (omega arith)))
-          ∙ sym (get_or-map (output_of s.decimation) (raw_outputs_of t (map counts_of zs)) n Silent)
-          ∙ ap (λ (os : List Output). get_or os n Nothing) (sym (outputs_above s.decimation D t (record { by = sym e; early = omega arith }) zs))
+          ∙ sym (get_or-map (output_of s.decimation) (raw_outputs_of t (map counts_of zs)) n None)
+          ∙ ap (λ (os : List (Option Complex32)). get_or os n None) (sym (outputs_above s.decimation D t (record { by = sym e; early = omega arith }) zs))
           ∙ sym (output_at_lem t n)
 
 -- ---- a front over samples: its oscillator and its decimator
@@ -168,7 +165,7 @@ module _ (conjugated : Bool) (table xs : List Float) where
   walk_dec r (suc n) = λ i. (stepped_of (walk_dec r n i) (mixed_of (walk_osc r n i) (sample_at xs n) conjugated)).decimator
 
   -- what the decimator gives for sample n
-  abbrev output_at : Rung → ℕ → Output
+  abbrev output_at : Rung → ℕ → Option Complex32
   output_at r n = (stepped_of (dec_at (mix_at r.place.oscillator) r.place.decimator n) (mix_at r.place.oscillator n)).output
 
   abbrev counter_at : Rung → ℕ → ℕ
@@ -199,19 +196,19 @@ pub record Alike (a b : Rung) : Type 0 where
   pub words_real_b : Words b.place.decimator.integrators.real
   pub words_imaginary_b : Words b.place.decimator.integrators.imaginary
 
-one_value : (o p : Output) (v w : Complex32) → o ≡ Value v → p ≡ Value w → o ≡ p → v ≡ w
+one_value : (o p : Option Complex32) (v w : Complex32) → o ≡ Some v → p ≡ Some w → o ≡ p → v ≡ w
 one_value o p v w e f s = cc
 
-arm_kept : (table : List Float) (h : ResamplerState) (o : Output) → (resample_state table h o).resampler.arm ≡ h.resampler.arm
+arm_kept : (table : List Float) (h : ResamplerState) (o : Option Complex32) → (resample_state table h o).resampler.arm ≡ h.resampler.arm
 unfolding resample_state
-arm_kept table h Nothing = refl
-arm_kept table h (Value v) = unfold resampled_of in refl
+arm_kept table h None = refl
+arm_kept table h (Some v) = unfold resampled_of in refl
 
-hears_nothing : (table : List Float) (h : ResamplerState) (o : Output) → o ≡ Nothing → resample_state table h o ≡ h
+hears_nothing : (table : List Float) (h : ResamplerState) (o : Option Complex32) → o ≡ None → resample_state table h o ≡ h
 unfolding resample_state
 hears_nothing table h o e = ap (resample_state table h) e
 
-heard_nothing : (table : List Float) (h : ResamplerState) (o : Output) → o ≡ Nothing → resample_values table h o ≡ []
+heard_nothing : (table : List Float) (h : ResamplerState) (o : Option Complex32) → o ≡ None → resample_values table h o ≡ []
 unfolding resample_values
 heard_nothing table h o e = ap (resample_values table h) e
 
@@ -234,10 +231,10 @@ module _ (conjugated : Bool) (table xs : List Float) (a b : Rung) (l : Alike a b
   abbrev rb : ℕ → ResamplerState
   rb n = ring_of (walk conjugated table xs b n)
 
-  abbrev oa : ℕ → Output
+  abbrev oa : ℕ → Option Complex32
   oa n = output_at conjugated table xs a n
 
-  abbrev ob : ℕ → Output
+  abbrev ob : ℕ → Option Complex32
   ob n = output_at conjugated table xs b n
 
   abbrev da : ℕ → Decimator
@@ -331,21 +328,21 @@ module _ (conjugated : Bool) (table xs : List Float) (a b : Rung) (l : Alike a b
       same_value : m ≤ q → va ≡ vb
       same_value h = one_value (oa n) (ob n) va vb loud_a.sounds loud_b.sounds (trusted n (subst (λ (j : ℕ). (m + 1) * d ≤ j) (sym whole) (mul-le-mul_right d (let g : m + 1 ≤ q + 1 = omega arith in g))))
 
-      heard_a : ra (suc n) ≡ resample_state table (ra n) (Value va)
+      heard_a : ra (suc n) ≡ resample_state table (ra n) (Some va)
       heard_a = walk_ring conjugated table xs a n ∙ ap (resample_state table (ra n)) loud_a.sounds
 
-      heard_b : rb (suc n) ≡ resample_state table (rb n) (Value vb)
+      heard_b : rb (suc n) ≡ resample_state table (rb n) (Some vb)
       heard_b = walk_ring conjugated table xs b n ∙ ap (resample_state table (rb n)) loud_b.sounds
 
       first : Like 0 (ra (suc n)) (rb (suc n))
-      first = like_of 0 (ra (suc n)) (rb (suc n)) (resample_state table (ra n) (Value va)) (resample_state table (rb n) (Value vb)) heard_a heard_b (like_other table 0 (ra n) (rb n) p.start va vb)
+      first = like_of 0 (ra (suc n)) (rb (suc n)) (resample_state table (ra n) (Some va)) (resample_state table (rb n) (Some vb)) heard_a heard_b (like_other table 0 (ra n) (rb n) p.start va vb)
 
       closer : (k : ℕ) → k ≤ c → k + m ≤ q + 1 → Like k (ra (suc n)) (rb (suc n))
       closer zero h i = first
       closer (suc k) h i =
           let e = p.armed in
           subst (λ (j : ℕ). Like j (ra (suc n)) (rb (suc n))) (add-one k)
-          (like_of (k + 1) (ra (suc n)) (rb (suc n)) (resample_state table (ra n) (Value va)) (resample_state table (rb n) (Value vb)) heard_a heard_b
+          (like_of (k + 1) (ra (suc n)) (rb (suc n)) (resample_state table (ra n) (Some va)) (resample_state table (rb n) (Some vb)) heard_a heard_b
           (like_more table k (ra n) (rb n) (p.near k (omega arith) (omega arith)) va vb (omega arith) (same_value (omega arith))))
 
       loudly : Apart (suc n) (q + 1)
@@ -353,7 +350,7 @@ module _ (conjugated : Bool) (table xs : List Float) (a b : Rung) (l : Alike a b
       loudly = record {
         counts = (let t = whole in let h : since + suc n ≡ (q + 1) * d + 0 = omega arith in h) ∙ ap (λ (j : ℕ). (q + 1) * d + j) (sym loud_a.anew);
         counter = loud_a.anew ∙ sym loud_b.anew;
-        armed = ap (λ (h : ResamplerState). h.resampler.arm) heard_a ∙ arm_kept table (ra n) (Value va) ∙ p.armed;
+        armed = ap (λ (h : ResamplerState). h.resampler.arm) heard_a ∙ arm_kept table (ra n) (Some va) ∙ p.armed;
         start = first;
         near = closer;
       }
@@ -403,7 +400,7 @@ module _ (conjugated : Bool) (table xs : List Float) (a b : Rung) (l : Alike a b
       let v = (counting_b n).by in
       let z = mix_at conjugated table xs a.place.oscillator n in
       ap (λ (s : Step). s.output) (step_through (da n) z (omega arith))
-      ∙ ap (λ (o : Oscillator). Value (mix_at conjugated table xs o n)) l.oscillator
+      ∙ ap (λ (o : Oscillator). Some (mix_at conjugated table xs o n)) l.oscillator
       ∙ sym (ap (λ (s : Step). s.output) (step_through (db n) (mix_at conjugated table xs b.place.oscillator n) (omega arith)))
 
   -- THE THEOREM, for one sample

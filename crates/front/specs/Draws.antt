@@ -2,12 +2,11 @@
 use Prim.Native.Nat.{ℕ, zero, suc, ◌+◌, ◌-◌, ◌*◌, ◌/◌, ◌^◌, ◌≤◌, ◌<◌}
 use Rattle.std.proofs.Math.Nat.{min-le_left, min-le_right}
 use native.Mathlib.Omega.{arith}
-use Rattle.std.specs.Prelude.{◌≡◌, Bool, List, Float}
+use Rattle.std.specs.Prelude.{◌≡◌, Bool, List, Float, None}
 use Rattle.std.proofs.Math.Path.{refl, sym, ap, subst}
 use Rattle.std.proofs.Common.{◌∙◌, lt-ltb, le-ltb}
 use Rattle.std.proofs.Math.ListN.{length}
 use Rattle.laws.specs.Turns.{turns, until, until_turn, until_none, until_stop}
-use Rattle.decimator.specs.declared.Output.TheVariants.{Nothing}
 use Rattle.front.specs.Resample.{resample_state, resample_values}
 use Rattle.front.specs.declared.FrontPlace.{FrontPlace}
 use Rattle.front.specs.declared.Drawn.{Drawn}
@@ -38,7 +37,7 @@ module _ (conjugated : Bool) (table xs : List Float) where
     drawn_on q = advanced_with table f q
 
     -- no sample before a d-th gives anything
-    hushed : (k : ℕ) → place.decimator.counter + k < place.decimator.decimation → (after k).output ≡ Nothing
+    hushed : (k : ℕ) → place.decimator.counter + k < place.decimator.decimation → (after k).output ≡ None
     unfolding turns
     hushed zero l = refl
     hushed (suc k) l = ap (λ (q : Drawn). q.output) (quiet conjugated xs f.at place r (omega arith) (suc k) l)
@@ -52,7 +51,7 @@ module _ (conjugated : Bool) (table xs : List Float) where
     }
 
     -- a run that gave nothing
-    nothing_on : (k : ℕ) → (after k).output ≡ Nothing → drawn_on (after k) ≡ ahead k
+    nothing_on : (k : ℕ) → (after k).output ≡ None → drawn_on (after k) ≡ ahead k
     nothing_on k h =
         let o = offered_none table (record { ring = ring_of f.rung; row = f.row }) (after k).output h in
         λ i. record { rung = rung_of (after k).oscillator (after k).decimator (sym o i).ring; row = (sym o i).row; at = f.at + run_is conjugated xs f.at place r k i }

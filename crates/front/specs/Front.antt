@@ -1,5 +1,5 @@
 -- The front: each sample is mixed and decimated, and a decimated value goes into the ring and makes up to two values due. Definitions only.
-use Rattle.std.specs.Prelude.{ℕ, ◌+◌, ◌-◌, ◌*◌, ◌/◌, Bool, cond, ltb, length, get_or, Float}
+use Rattle.std.specs.Prelude.{ℕ, ◌+◌, ◌-◌, ◌*◌, ◌/◌, Bool, cond, ltb, length, get_or, Float, Option, None}
 use Prim.Native.Nat as Nat
 use mathlib.Core.List.{List, [], ◌++◌, map, foldl}
 use Rattle.std.proofs.lemmas.List.Edits.{sets}
@@ -10,8 +10,6 @@ use Rattle.complex.specs.declared.Complex32.{Complex32}
 use Rattle.oscillator.specs.declared.Oscillator.{Oscillator}
 use Rattle.oscillator.specs.Oscillator.{turned_of, mixed_of}
 use Rattle.decimator.specs.declared.Decimator.{Decimator}
-use Rattle.decimator.specs.declared.Output.{Output}
-use Rattle.decimator.specs.declared.Output.TheVariants.{Nothing}
 use Rattle.decimator.specs.declared.Step.{Step}
 use Rattle.decimator.specs.Decimator.{counts_of, absorbed_of, stepped_of}
 use Rattle.front.specs.Resample.{ResamplerState, resample_state, resample_values}
@@ -131,7 +129,7 @@ draw_turn conjugated xs from k q =
     record { oscillator = turned_of q.oscillator; decimator = s.decimator; output = s.output; run = k + 1 }
 
 abbrev pub draw_start : FrontPlace → Drawn
-draw_start p = record { oscillator = p.oscillator; decimator = p.decimator; output = Nothing; run = 0 }
+draw_start p = record { oscillator = p.oscillator; decimator = p.decimator; output = None; run = 0 }
 
 unfoldable pub drawn_of : Bool → List Float → ℕ → ℕ → FrontPlace → Drawn
 drawn_of conjugated xs from left p = turns (draw_turn conjugated xs from) (run_of p.decimator left) (draw_start p)
@@ -151,7 +149,7 @@ pub record Offered : Type 0 where
   pub ring : ResamplerState
   pub row : Row
 
-abbrev pub offered_of : List Float → Offered → Output → Offered
+abbrev pub offered_of : List Float → Offered → Option Complex32 → Offered
 offered_of table f o = record { ring = resample_state table f.ring o; row = laid_of (resample_values table f.ring o) f.row }
 
 abbrev pub offered_now : Offering → List Float → List Float → List Float → List Float → Offered

@@ -1,9 +1,7 @@
 -- One law for each way out of a function: what the code leaves there is the definition. Assumes nothing.
-use Rattle.std.specs.Prelude.{ℕ, zero, suc, ◌+◌, ◌≤◌, ◌≡◌, refl, List, [], ◌∷◌, length, set, take, Float}
+use Rattle.std.specs.Prelude.{ℕ, zero, suc, ◌+◌, ◌≤◌, ◌≡◌, refl, List, [], ◌∷◌, length, set, take, Float, Option, Some, None}
 use Rattle.std.proofs.Common.{add-one, arith, sym, ap, ◌∙◌, take_all}
 use Rattle.complex.specs.declared.Complex32.{Complex32}
-use Rattle.decimator.specs.declared.Output.{Output}
-use Rattle.decimator.specs.declared.Output.TheVariants.{Nothing, Value}
 use Rattle.resampler.specs.declared.pass.Resampler.{Resampler}
 use Rattle.resampler.specs.declared.pass.Passed.{Passed}
 use Rattle.front.specs.Resample.{resample_state, resample_values}
@@ -39,11 +37,11 @@ unfolding laid_of
 laid_two p r h = rw (two_taken p.count p.first p.second h, add-one)
 
 -- ---- a decimated value, or none
-pub offered_none : (table : List Float) (f : Offered) (o : Output) → o ≡ Nothing → f ≡ offered_of table f o
+pub offered_none : (table : List Float) (f : Offered) (o : Option Complex32) → o ≡ None → f ≡ offered_of table f o
 unfolding resample_state resample_values
 offered_none table f o e = rw e (λ i. record { ring = f.ring; row = laid_nothing f.row i })
 
-pub offered_some : (table : List Float) (f : Offered) (o : Output) (v : Complex32) (s : Sampled) (row : Row) → o ≡ Value v
+pub offered_some : (table : List Float) (f : Offered) (o : Option Complex32) (v : Complex32) (s : Sampled) (row : Row) → o ≡ Some v
     → s ≡ resampled_of f.ring.resampler v table f.ring.real f.ring.imaginary → row ≡ laid_of (values_of s.passed) f.row
     → ◌≡◌ {A = Offered} (record { ring = record { resampler = s.passed.resampler; real = s.real; imaginary = s.imaginary }; row = row }) (offered_of table f o)
 unfolding resample_state resample_values

@@ -1,8 +1,6 @@
 -- What the resampler makes of an output of the decimator, and of a row of samples through both from fresh. Definitions only.
-use Rattle.std.specs.Prelude.{List, [], ◌∷◌, Float}
+use Rattle.std.specs.Prelude.{List, [], ◌∷◌, Float, Option, Some, None}
 use Rattle.complex.specs.declared.Complex32.{Complex32}
-use Rattle.decimator.specs.declared.Output.{Output}
-use Rattle.decimator.specs.declared.Output.TheVariants.{Nothing, Value}
 use Rattle.decimator.specs.Decimator.{outputs_of}
 use Rattle.decimator.specs.Decimator.{fresh_of as fresh_decimator}
 use Rattle.resampler.specs.declared.dimensions.Dimensions.{Dimensions}
@@ -17,19 +15,19 @@ pub record ResamplerState : Type 0 where
   pub imaginary : List Float
 
 -- the resampler after an output of the decimator: a decimated value, or none
-unfoldable pub resample_state : List Float → ResamplerState → Output → ResamplerState
-resample_state table h Nothing = h
-resample_state table h (Value v) =
+unfoldable pub resample_state : List Float → ResamplerState → Option Complex32 → ResamplerState
+resample_state table h None = h
+resample_state table h (Some v) =
     let s = resampled_of h.resampler v table h.real h.imaginary in
     record { resampler = s.passed.resampler; real = s.real; imaginary = s.imaginary }
 
 -- and the values that it makes due
-unfoldable pub resample_values : List Float → ResamplerState → Output → List Complex32
-resample_values table h Nothing = []
-resample_values table h (Value v) = values_of (resampled_of h.resampler v table h.real h.imaginary).passed
+unfoldable pub resample_values : List Float → ResamplerState → Option Complex32 → List Complex32
+resample_values table h None = []
+resample_values table h (Some v) = values_of (resampled_of h.resampler v table h.real h.imaginary).passed
 
 -- the values that each output of a row makes due
-unfoldable pub resample_row : List Float → ResamplerState → List Output → List (List Complex32)
+unfoldable pub resample_row : List Float → ResamplerState → List (Option Complex32) → List (List Complex32)
 resample_row table h [] = []
 resample_row table h (o ∷ os) = resample_values table h o ∷ resample_row table (resample_state table h o) os
 

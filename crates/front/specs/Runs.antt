@@ -6,7 +6,7 @@ use native.Mathlib.Omega.{arith}
 use Rattle.std.proofs.Math.Path.{◌≡◌, refl, sym, ap, subst}
 use Rattle.std.proofs.Common.{◌∙◌, lt-ltb, le-ltb}
 use Rattle.std.proofs.Math.Logic.{⊎_elim}
-use Rattle.std.specs.Prelude.{Bool, cond, List, length, Float}
+use Rattle.std.specs.Prelude.{Bool, cond, List, length, Float, Some, None}
 use Rattle.laws.specs.Turns.{turns}
 use Rattle.laws.specs.Ring.{lt_or_ge}
 use Rattle.complex.specs.declared.Complex32.{Complex32}
@@ -15,9 +15,8 @@ use Rattle.oscillator.specs.Oscillator.{Number, turned_of, mixed_of}
 use Rattle.oscillator.specs.Laws.{turned_below}
 use Rattle.decimator.specs.declared.Decimator.{Decimator}
 use Rattle.decimator.specs.declared.Decimated.{Decimated}
-use Rattle.decimator.specs.declared.Integrators.{Integrators}
+use Rattle.decimator.specs.declared.Parts.{Parts}
 use Rattle.decimator.specs.declared.Advance.{Advance}
-use Rattle.decimator.specs.declared.Output.TheVariants.{Nothing, Value}
 use Rattle.decimator.specs.declared.Step.{Step}
 use Rattle.decimator.specs.Decimator.{Counting, counts_of, absorbed_of, silent_of, sounded_of, advanced_of, decimated_of, output_of, stepped_of}
 use Rattle.decimator.proofs.Values.{step_above, step_through, step_counting}
@@ -31,7 +30,7 @@ use Rattle.front.specs.Admitted.{Admitted, Numbers, Drew}
 pub number_at : (xs : List Float) → Numbers xs → (k : ℕ) → k < length xs / 2 → Number (sample_at xs k)
 number_at xs n k l = record { real = n.each (2 * k) (omega arith); imaginary = n.each (2 * k + 1) (omega arith) }
 
-pub gathered_is : (conjugated : Bool) (g : Gathering) (x z : Complex32) (s : Integrators) (o : Oscillator)
+pub gathered_is : (conjugated : Bool) (g : Gathering) (x z : Complex32) (s : Parts) (o : Oscillator)
     → z ≡ mixed_of g.oscillator x conjugated → s ≡ absorbed_of g.integrators (counts_of z) → o ≡ turned_of g.oscillator
     → ◌≡◌ {A = Gathering} (record { oscillator = o; integrators = s }) (gathered_of conjugated g x)
 gathered_is conjugated g x z s o ze se oe = λ i. record { oscillator = oe i; integrators = (se ∙ ap (λ (t : Complex32). absorbed_of g.integrators (counts_of t)) ze) i }
@@ -86,13 +85,13 @@ module _ (conjugated : Bool) (xs : List Float) (from : ℕ) (p : FrontPlace) (r 
   -- ---- d = 1
   pub single_is : (left : ℕ) (z : Complex32) (o : Oscillator) → p.decimator.decimation ≤ 1 → 0 < left
       → z ≡ mixed_of p.oscillator (sample_at xs from) conjugated → o ≡ turned_of p.oscillator
-      → ◌≡◌ {A = Drawn} (record { oscillator = o; decimator = p.decimator; output = Value z; run = 1 }) (drawn_of conjugated xs from left p)
+      → ◌≡◌ {A = Drawn} (record { oscillator = o; decimator = p.decimator; output = Some z; run = 1 }) (drawn_of conjugated xs from left p)
   unfolding drawn_of turns
   single_is left z o D l ze oe =
       let b = r.decimator.counter_in in
       let n : run_of p.decimator left ≡ 1 = min-eq_right (let g : p.decimator.decimation - p.decimator.counter ≤ left = omega arith in g) ∙ (let g : p.decimator.decimation - p.decimator.counter ≡ 1 = omega arith in g) in
       let f : from + 0 ≡ from = omega arith in
-      let s : ◌≡◌ {A = Step} (record { decimator = p.decimator; output = Value z }) (step_of conjugated p.oscillator p.decimator (sample_at xs (from + 0))) =
+      let s : ◌≡◌ {A = Step} (record { decimator = p.decimator; output = Some z }) (step_of conjugated p.oscillator p.decimator (sample_at xs (from + 0))) =
       sym (step_through p.decimator z D) ∙ ap (stepped_of p.decimator) (ze ∙ ap (λ (k : ℕ). mixed_of p.oscillator (sample_at xs k) conjugated) (sym f)) in
       (λ i. record { oscillator = oe i; decimator = (s i).decimator; output = (s i).output; run = 0 + 1 })
       ∙ ap drew (sym n)
@@ -110,7 +109,7 @@ module _ (conjugated : Bool) (xs : List Float) (from : ℕ) (p : FrontPlace) (r 
     waited k = record { decimation = p.decimator.decimation; counter = p.decimator.counter + k; integrators = (taken k).integrators; combs = p.decimator.combs }
 
     abbrev pub quietly : ℕ → Drawn
-    quietly k = record { oscillator = (taken k).oscillator; decimator = waited k; output = Nothing; run = k }
+    quietly k = record { oscillator = (taken k).oscillator; decimator = waited k; output = None; run = k }
 
     -- the sample that comes next
     abbrev next : ℕ → Complex32
@@ -124,7 +123,7 @@ module _ (conjugated : Bool) (xs : List Float) (from : ℕ) (p : FrontPlace) (r 
         record { decimator = a.decimator; output = output_of p.decimator.decimation a.raw }
 
     quiet_step : (k : ℕ) → p.decimator.counter + k + 1 < p.decimator.decimation
-        → ◌≡◌ {A = Step} (stepped_of (waited k) (next k)) (record { decimator = record { decimation = p.decimator.decimation; counter = p.decimator.counter + k + 1; integrators = absorbed_of (taken k).integrators (counts_of (next k)); combs = p.decimator.combs }; output = Nothing })
+        → ◌≡◌ {A = Step} (stepped_of (waited k) (next k)) (record { decimator = record { decimation = p.decimator.decimation; counter = p.decimator.counter + k + 1; integrators = absorbed_of (taken k).integrators (counts_of (next k)); combs = p.decimator.combs }; output = None })
     unfolding advanced_of output_of
     quiet_step k l =
         step_above (waited k) (next k) D
@@ -135,21 +134,21 @@ module _ (conjugated : Bool) (xs : List Float) (from : ℕ) (p : FrontPlace) (r 
     unfolding turns
     quiet zero l =
         let e : p.decimator.counter ≡ p.decimator.counter + 0 = omega arith in
-        λ i. record { oscillator = p.oscillator; decimator = record { decimation = p.decimator.decimation; counter = e i; integrators = p.decimator.integrators; combs = p.decimator.combs }; output = Nothing; run = 0 }
+        λ i. record { oscillator = p.oscillator; decimator = record { decimation = p.decimator.decimation; counter = e i; integrators = p.decimator.integrators; combs = p.decimator.combs }; output = None; run = 0 }
     quiet (suc k) l =
         let e : p.decimator.counter + k + 1 ≡ p.decimator.counter + suc k = omega arith in
         let s = quiet_step k (omega arith) in
         ap (draw_turn conjugated xs from k) (quiet k (omega arith))
         ∙ (λ i. record { oscillator = turned_of (taken k).oscillator; decimator = (s i).decimator; output = (s i).output; run = add-one k i })
-        ∙ (λ i. record { oscillator = turned_of (taken k).oscillator; decimator = record { decimation = p.decimator.decimation; counter = e i; integrators = absorbed_of (taken k).integrators (counts_of (next k)); combs = p.decimator.combs }; output = Nothing; run = suc k })
+        ∙ (λ i. record { oscillator = turned_of (taken k).oscillator; decimator = record { decimation = p.decimator.decimation; counter = e i; integrators = absorbed_of (taken k).integrators (counts_of (next k)); combs = p.decimator.combs }; output = None; run = suc k })
 
     abbrev pub whole : Gathering → Decimated → ℕ → Drawn
-    whole g e n = record { oscillator = g.oscillator; decimator = e.decimator; output = Value e.value; run = n }
+    whole g e n = record { oscillator = g.oscillator; decimator = e.decimator; output = Some e.value; run = n }
 
     loud_step : (k : ℕ) → p.decimator.decimation ≤ p.decimator.counter + k + 1
         → ◌≡◌ {A = Step} (stepped_of (waited k) (next k)) (record {
           decimator = (decimated_of p.decimator (absorbed_of (taken k).integrators (counts_of (next k)))).decimator;
-          output = Value (decimated_of p.decimator (absorbed_of (taken k).integrators (counts_of (next k)))).value;
+          output = Some (decimated_of p.decimator (absorbed_of (taken k).integrators (counts_of (next k)))).value;
         })
     unfolding advanced_of output_of
     loud_step k l =
@@ -170,12 +169,12 @@ module _ (conjugated : Bool) (xs : List Float) (from : ℕ) (p : FrontPlace) (r 
           → ◌≡◌ {A = Drawn} (record {
             oscillator = g.oscillator;
             decimator = record { decimation = p.decimator.decimation; counter = p.decimator.counter + n; integrators = g.integrators; combs = p.decimator.combs };
-            output = Nothing;
+            output = None;
             run = n;
           }) (drawn_of conjugated xs from left p)
       unfolding gather_of drawn_of
       waits_is l =
-          (λ i. record { oscillator = (ge i).oscillator; decimator = record { decimation = p.decimator.decimation; counter = p.decimator.counter + n; integrators = (ge i).integrators; combs = p.decimator.combs }; output = Nothing; run = n })
+          (λ i. record { oscillator = (ge i).oscillator; decimator = record { decimation = p.decimator.decimation; counter = p.decimator.counter + n; integrators = (ge i).integrators; combs = p.decimator.combs }; output = None; run = n })
           ∙ sym (quiet n (omega arith))
           ∙ ap drew ne
 

@@ -1,5 +1,5 @@
 -- What a sample keeps of a front, on the definitions: it stays admitted, and makes at most two values. Assumes nothing.
-use Rattle.std.specs.Prelude.{ℕ, zero, suc, ◌+◌, ◌*◌, ◌/◌, ◌^◌, ◌≤◌, ◌<◌, ◌≡◌, refl, Bool, T, length, get_or, set, Float}
+use Rattle.std.specs.Prelude.{ℕ, zero, suc, ◌+◌, ◌*◌, ◌/◌, ◌^◌, ◌≤◌, ◌<◌, ◌≡◌, refl, Bool, T, length, get_or, set, Float, Option, Some, None}
 use Rattle.std.proofs.Common.{arith, sym, ap, ◌∙◌, subst, length-set, length-append}
 use mathlib.Core.List.{List, ◌++◌, foldl-append}
 use Rattle.std.specs.Float.{binary64}
@@ -20,8 +20,6 @@ use Rattle.resampler.specs.Admitted.{Sized}
 use Rattle.resampler.specs.Ranges.{fresh_admitted as ring_admitted}
 use Rattle.oscillator.specs.Laws.{turned_admitted}
 use Rattle.oscillator.specs.Laws.{fresh_admitted as oscillator_admitted}
-use Rattle.decimator.specs.declared.Output.{Output}
-use Rattle.decimator.specs.declared.Output.TheVariants.{Nothing, Value}
 use Rattle.decimator.proofs.Values.{step_counting}
 use Rattle.decimator.proofs.AdmittedLaws.{step_admitted}
 use Rattle.decimator.proofs.AdmittedLaws.{fresh_admitted as decimator_admitted}
@@ -61,10 +59,10 @@ record Hearing (h g : ResamplerState) : Type 0 where
   real : length g.real ≡ length h.real
   imaginary : length g.imaginary ≡ length h.imaginary
 
-hears : (table : List Float) (h : ResamplerState) (o : Output) → RingAdmitted h.resampler → T (fits binary64 h.resampler.next) → h.resampler.index < 2 ^ 52 → Hearing h (resample_state table h o)
+hears : (table : List Float) (h : ResamplerState) (o : Option Complex32) → RingAdmitted h.resampler → T (fits binary64 h.resampler.next) → h.resampler.index < 2 ^ 52 → Hearing h (resample_state table h o)
 unfolding resample_state resampled_of
-hears table h Nothing k F room = record { admitted = k; stored = F; index_low = omega arith; index = omega arith; arm = refl; half = refl; step = refl; real = refl; imaginary = refl }
-hears table h (Value v) k F room =
+hears table h None k F room = record { admitted = k; stored = F; index_low = omega arith; index = omega arith; arm = refl; half = refl; step = refl; real = refl; imaginary = refl }
+hears table h (Some v) k F room =
     let r = h.resampler in
     let xs = set h.real r.write v.real in
     let ys = set h.imaginary r.write v.imaginary in
@@ -80,10 +78,10 @@ hears table h (Value v) k F room =
       imaginary = length-set h.imaginary r.write v.imaginary;
     }
 
-resampled_few : (table : List Float) (h : ResamplerState) (o : Output) → length (resample_values table h o) ≤ 2
+resampled_few : (table : List Float) (h : ResamplerState) (o : Option Complex32) → length (resample_values table h o) ≤ 2
 unfolding resample_values
-resampled_few table h Nothing = omega arith
-resampled_few table h (Value v) = values_few (resampled_of h.resampler v table h.real h.imaginary).passed
+resampled_few table h None = omega arith
+resampled_few table h (Some v) = values_few (resampled_of h.resampler v table h.real h.imaginary).passed
 
 -- ---- one sample
 pub values_two : (conjugated : Bool) (table : List Float) (r : Rung) (x : Complex32) → length (front_step conjugated table r x).values ≤ 2

@@ -10,7 +10,7 @@ ghost use Rattle.front.specs.Admitted.{admitted_of, Admitted, Numbers, CallKeeps
 ghost use Rattle.front.specs.Lends.{LeavesRow, LeavesOffer, Leaves};
 
 use complex::Complex32;
-use decimator::{Decimator, Integrators, Output};
+use decimator::{Decimator, Parts};
 use oscillator::Oscillator;
 use resampler::pass::{PLACES, Passed, Resampler};
 
@@ -40,7 +40,7 @@ pub struct Fronted {
 #[derive(Clone, Copy)]
 pub struct Gathering {
     pub oscillator: Oscillator,
-    pub integrators: Integrators,
+    pub integrators: Parts,
 }
 
 // After a run of samples: how many they were, and what the decimator gave for the last.
@@ -48,7 +48,7 @@ pub struct Gathering {
 pub struct Drawn {
     pub oscillator: Oscillator,
     pub decimator: Decimator,
-    pub output: Output,
+    pub output: Option<Complex32>,
     pub run: usize,
 }
 
@@ -63,10 +63,8 @@ pub struct Offering {
 pub fn is_admitted(p: FrontPlace) -> bool
     ensures { result ≡ admitted_of p }
 {
-    let o = p.oscillator;
-    let d = p.decimator;
-    let r = p.resampler;
-    oscillator::is_admitted(o) & (decimator::is_admitted(d) & resampler::pass::is_admitted(r))
+    oscillator::is_admitted(p.oscillator)
+        & (decimator::is_admitted(p.decimator) & resampler::pass::is_admitted(p.resampler))
 }
 
 // One sample: the oscillator is lent and turned, the integrators take what it made.
@@ -77,12 +75,10 @@ fn gathered(g: Gathering, conjugated: bool, sample: Complex32) -> Gathering
     ensures kept { result.oscillator.renormalize < 4096 }
 {
     let mut oscillator = g.oscillator;
-    let s = g.integrators;
     let z = oscillator::mix(&mut oscillator, sample, conjugated);
-    let integrators = decimator::gathered(s, z);
     Gathering {
         oscillator,
-        integrators,
+        integrators: decimator::gathered(g.integrators, z),
     }
 }
 
@@ -95,14 +91,12 @@ fn gather(g: Gathering, conjugated: bool, samples: &[f32], from: usize, count: u
     ensures { result ≡ gather_of conjugated samples.now from count g }
 {
     let mut h = g;
-    let mut i = 0;
-    while i < count {
+    for i in 0..count {
         let sample = Complex32 {
             real: samples[2 * (from + i)],
             imaginary: samples[2 * (from + i) + 1],
         };
         h = gathered(h, conjugated, sample);
-        i += 1;
     }
     h
 }
@@ -115,19 +109,15 @@ fn single(p: FrontPlace, conjugated: bool, samples: &[f32], from: usize) -> Draw
     requires from_in_bounds { from < length samples.now / 2 }
     ensures { result ≡ drawn_of conjugated samples.now from (length samples.now / 2 - from) p }
 {
-    let o = p.oscillator;
-    let decimator = p.decimator;
     let sample = Complex32 {
         real: samples[2 * from],
         imaginary: samples[2 * from + 1],
     };
-    let t = oscillator::stepped(o, sample, conjugated);
-    let turned = t.oscillator;
-    let z = t.value;
+    let t = oscillator::stepped(p.oscillator, sample, conjugated);
     Drawn {
-        oscillator: turned,
-        decimator,
-        output: Output::Value(z),
+        oscillator: t.oscillator,
+        decimator: p.decimator,
+        output: Some(t.value),
         run: 1,
     }
 }
@@ -140,39 +130,31 @@ fn several(p: FrontPlace, conjugated: bool, samples: &[f32], from: usize) -> Dra
     requires from_in_bounds { from < length samples.now / 2 }
     ensures { result ≡ drawn_of conjugated samples.now from (length samples.now / 2 - from) p }
 {
-    let o = p.oscillator;
     let d = p.decimator;
-    let i = d.integrators;
     let needed = d.decimation - d.counter;
     let run = (samples.len() / 2 - from).min(needed);
     let start = Gathering {
-        oscillator: o,
-        integrators: i,
+        oscillator: p.oscillator,
+        integrators: d.integrators,
     };
     let g = gather(start, conjugated, samples, from, run);
-    let oscillator = g.oscillator;
-    let integrators = g.integrators;
     if run < needed {
-        let combs = d.combs;
         return Drawn {
-            oscillator,
+            oscillator: g.oscillator,
             decimator: Decimator {
-                decimation: d.decimation,
                 counter: d.counter + run,
-                integrators,
-                combs,
+                integrators: g.integrators,
+                ..d
             },
-            output: Output::Nothing,
+            output: None,
             run,
         };
     }
-    let e = decimator::decimate(d, integrators);
-    let decimator = e.decimator;
-    let value = e.value;
+    let e = decimator::decimate(d, g.integrators);
     Drawn {
-        oscillator,
-        decimator,
-        output: Output::Value(value),
+        oscillator: g.oscillator,
+        decimator: e.decimator,
+        output: Some(e.value),
         run,
     }
 }
@@ -185,11 +167,11 @@ fn draw(p: FrontPlace, conjugated: bool, samples: &[f32], from: usize) -> Drawn
     ensures same { result ≡ drawn_of conjugated samples.now from (length samples.now / 2 - from) p }
     ensures kept { Drew (length samples.now / 2 - from) p result }
 {
-    let d = p.decimator;
-    if d.decimation > 1 {
-        return several(p, conjugated, samples, from);
+    if p.decimator.decimation > 1 {
+        several(p, conjugated, samples, from)
+    } else {
+        single(p, conjugated, samples, from)
     }
-    single(p, conjugated, samples, from)
 }
 
 // The values of a pass go into the row.
@@ -214,7 +196,7 @@ fn laid(p: Passed, made: usize, row_real: &mut [f32; ROW], row_imaginary: &mut [
 fn offered(
     r: Resampler,
     made: usize,
-    output: Output,
+    output: Option<Complex32>,
     table: &[f32],
     ring_real: &mut [f32; PLACES],
     ring_imaginary: &mut [f32; PLACES],
@@ -229,23 +211,14 @@ fn offered(
         (λ before after. after ≡ offered_of table.now before output) }
     ensures kept { Offer r made result }
 {
-    match output {
-        Output::Nothing => Offering { resampler: r, made },
-        Output::Value(value) => {
-            let p = resampler::pass::resampled(
-                r,
-                value,
-                table,
-                &mut *ring_real,
-                &mut *ring_imaginary,
-            );
-            let now_made = laid(p, made, &mut *row_real, &mut *row_imaginary);
-            let resampler = p.resampler;
-            Offering {
-                resampler,
-                made: now_made,
-            }
-        }
+    let Some(value) = output else {
+        return Offering { resampler: r, made };
+    };
+    let p = resampler::pass::resampled(r, value, table, &mut *ring_real, &mut *ring_imaginary);
+    let now_made = laid(p, made, &mut *row_real, &mut *row_imaginary);
+    Offering {
+        resampler: p.resampler,
+        made: now_made,
     }
 }
 
@@ -274,29 +247,23 @@ fn advance(
         ≡ filled_of conjugated table.now samples.now before) }
     ensures kept { Moved (length samples.now / 2 - (from + t.used)) t result }
 {
-    let p = t.place;
-    let r = p.resampler;
-    let s = draw(p, conjugated, samples, from + t.used);
+    let s = draw(t.place, conjugated, samples, from + t.used);
     let used = t.used + s.run;
-    let output = s.output;
     let l = offered(
-        r,
+        t.place.resampler,
         t.made,
-        output,
+        s.output,
         table,
         &mut *ring_real,
         &mut *ring_imaginary,
         &mut *row_real,
         &mut *row_imaginary,
     );
-    let oscillator = s.oscillator;
-    let decimator = s.decimator;
-    let resampler = l.resampler;
     Fronted {
         place: FrontPlace {
-            oscillator,
-            decimator,
-            resampler,
+            oscillator: s.oscillator,
+            decimator: s.decimator,
+            resampler: l.resampler,
         },
         used,
         made: l.made,
@@ -331,8 +298,7 @@ pub fn front(
         made: 0,
     };
     while from + t.used < end {
-        let made = t.made;
-        if ROOM < made {
+        if t.made > ROOM {
             break;
         }
         t = advance(

@@ -1,7 +1,7 @@
 -- Demand 3 for the receiver's own decimator, over all the samples that it takes, block after block. At d above 1 every d-th sample since setup gives the resampler an output, and no other does; the output is
 -- the sum of the latest 3d - 2 mixed and quantised samples, each weighted by the number of ways to write its age as an ordered sum of three numbers from 0 to d - 1, modulo 2 ^ 64 and read as signed, then
 -- scaled and narrowed. Where those samples lie within 2 ^ 44, as they do while mixed parts are at most 2 ^ 29 in size, it is exactly that sum. At d = 1 the mixed samples are passed through. Assumes nothing.
-use Rattle.std.specs.Prelude.{◌≡◌, Bool, true, false, cond, ◌⊎◌, eqb, ℤ, length, get_or, Float}
+use Rattle.std.specs.Prelude.{◌≡◌, Bool, true, false, cond, ◌⊎◌, eqb, ℤ, length, get_or, Float, Some, None, Option}
 use Rattle.std.proofs.Math.Path.{refl, sym, ap}
 use Rattle.std.proofs.Common.{◌∙◌, inl, inr, arith, le-ltb}
 use mathlib.Core.List.{List, [], ◌∷◌, ◌++◌, map, foldl, foldl-append}
@@ -20,10 +20,7 @@ use Rattle.complex.specs.Complex.{zero_pair}
 use Rattle.oscillator.specs.declared.Oscillator.{Oscillator}
 use Rattle.oscillator.specs.Oscillator.{conjugated_of, fresh_of as fresh_oscillator, turned_of, mixed_of}
 use Rattle.decimator.specs.declared.Decimator.{Decimator}
-use Rattle.decimator.specs.declared.Output.{Output}
-use Rattle.decimator.specs.declared.Output.TheVariants.{Nothing, Value}
 use Rattle.decimator.specs.declared.Counts.{Counts}
-use Rattle.decimator.specs.declared.RawOutput.TheVariants.{Silent, Sum}
 use Rattle.decimator.specs.Decimator.{Counting, counts_of, fresh_of, scaled_of, raw_outputs_of, output_of, stepped_of, outputs_of}
 use Rattle.decimator.specs.Demand.{ago, sums_at}
 use Rattle.decimator.proofs.Part.{Words}
@@ -73,7 +70,7 @@ mixed_length conjugated o (x ∷ xs) = ap suc (mixed_length conjugated (turned_o
 outputs_append : (s : Decimator) (xs ys : List Complex32) → outputs_of s (xs ++ ys) ≡ outputs_of s xs ++ outputs_of (decimator_after s xs) ys
 unfolding outputs_of
 outputs_append s [] ys = refl
-outputs_append s (x ∷ xs) ys = ap (λ (l : List Output). (stepped_of s x).output ∷ l) (outputs_append (stepped_of s x).decimator xs ys)
+outputs_append s (x ∷ xs) ys = ap (λ (l : List (Option Complex32)). (stepped_of s x).output ∷ l) (outputs_append (stepped_of s x).decimator xs ys)
 
 -- ---- a front over the first k samples: its oscillator, its decimator, and what that gives
 module _ (conjugated : Bool) (table xs : List Float) (h : front.Run) where
@@ -89,7 +86,7 @@ module _ (conjugated : Bool) (table xs : List Float) (h : front.Run) where
   abbrev heads : ℕ → List Complex32
   heads k = upto (front.sample_at xs) k
 
-  abbrev given : ℕ → Output
+  abbrev given : ℕ → Option Complex32
   given k = (front.step_of conjugated (at k).rung.place.oscillator (at k).rung.place.decimator (front.sample_at xs k)).output
 
   oscillator_at : (k : ℕ) → (at k).rung.place.oscillator ≡ oscillator_after o (heads k)
@@ -175,7 +172,7 @@ given_is r (c ∷ cs) = elim (answered r c) [
       let h : front.Run = record { rung = (start_of r c.rooms).rung; values = [] } in
       ap (λ (y : Bool). cond y (upto (given_at r c) k) [] ++ given_of after cs) t.accepted
       ∙ (λ i. given_row b c.table c.samples h k i ++ given_is after cs i)
-      ∙ ap (λ (l : List Output). outputs_of t₀ (mixed_row b q (upto (front.sample_at c.samples) k)) ++ l) (moved_on r c t rest)
+      ∙ ap (λ (l : List (Option Complex32)). outputs_of t₀ (mixed_row b q (upto (front.sample_at c.samples) k)) ++ l) (moved_on r c t rest)
       ∙ sym (outputs_append t₀ (mixed_row b q (upto (front.sample_at c.samples) k)) (mixed_row b (oscillator_after q (upto (front.sample_at c.samples) k)) rest))
       ∙ ap (outputs_of t₀) (sym (mixed_append b q (upto (front.sample_at c.samples) k) rest))
       ∙ ap (λ (y : Bool). outputs_of t₀ (mixed_row b q (taken_where y c ++ rest))) (sym t.accepted)
@@ -199,9 +196,9 @@ unfolding front.front_of turns front.more front.front_step
 makes r c k = refl
 
 -- at d above 1 the outputs to mixed samples are the scaled answers to them quantised
-answered_at : (d : ℕ) → 1 < d → (t : Decimator) → Counting d t → (zs : List Complex32) (n : ℕ) → get_or (outputs_of t zs) n Nothing ≡ output_of d (get_or (raw_outputs_of t (map counts_of zs)) n Silent)
+answered_at : (d : ℕ) → 1 < d → (t : Decimator) → Counting d t → (zs : List Complex32) (n : ℕ) → get_or (outputs_of t zs) n None ≡ output_of d (get_or (raw_outputs_of t (map counts_of zs)) n None)
 unfolding output_of
-answered_at d D t k zs n = ap (λ (os : List Output). get_or os n Nothing) (outputs_above d D t k zs) ∙ get_or-map (output_of d) (raw_outputs_of t (map counts_of zs)) n Silent
+answered_at d D t k zs n = ap (λ (os : List (Option Complex32)). get_or os n None) (outputs_above d D t k zs) ∙ get_or-map (output_of d) (raw_outputs_of t (map counts_of zs)) n None
 
 -- samples that agree, mixed
 pub mixed_same : (conjugated : Bool) (o : Oscillator) (none : Complex32) (xs ys : List Complex32) (i : ℕ) → i < length xs → i < length ys → get_or xs i none ≡ get_or ys i none
@@ -242,7 +239,7 @@ module _ (rate offset : Float) (profile : ℤ) (table : List Float) where
         given_is fresh cs ∙ (λ i. outputs_of (e i).front.decimator (mixed_row (conjugated_of (e i).chain.profile) (e i).front.oscillator (taken_of fresh cs)))
 
     -- d = 1 passes the mixed samples through
-    pub given_through : (cs : List Call) → d ≤ 1 → given_of fresh cs ≡ map Value (mixed cs)
+    pub given_through : (cs : List Call) → d ≤ 1 → given_of fresh cs ≡ map Some (mixed cs)
     unfolding fresh_of
     given_through cs l = given_fresh cs ∙ outputs_through (fresh_of d) l (mixed cs)
 
@@ -250,40 +247,40 @@ module _ (rate offset : Float) (profile : ℤ) (table : List Float) where
       inside : n < length (quantised cs)
       inside = let a = length-map (mixed cs) counts_of in let b = mixed_all cs in omega arith
 
-      given_at_lem : get_or (given_of fresh cs) n Nothing ≡ output_of d (get_or (raw_outputs_of (fresh_of d) (quantised cs)) n Silent)
-      given_at_lem = ap (λ (os : List Output). get_or os n Nothing) (given_fresh cs) ∙ answered_at d D (fresh_of d) (fresh_counting d (omega arith)) (mixed cs) n
+      given_at_lem : get_or (given_of fresh cs) n None ≡ output_of d (get_or (raw_outputs_of (fresh_of d) (quantised cs)) n None)
+      given_at_lem = ap (λ (os : List (Option Complex32)). get_or os n None) (given_fresh cs) ∙ answered_at d D (fresh_of d) (fresh_counting d (omega arith)) (mixed cs) n
 
       -- every d-th sample gives an output
-      pub sounds : (n + 1) % d ≡ 0 → get_or (given_of fresh cs) n Nothing ≡ Value (scaled_of d (wrapped_sums d (quantised cs) n))
+      pub sounds : (n + 1) % d ≡ 0 → get_or (given_of fresh cs) n None ≡ Some (scaled_of d (wrapped_sums d (quantised cs) n))
       unfolding output_of
       sounds e = given_at_lem ∙ ap (output_of d) (decimates_at d (omega arith) (quantised cs) n inside ∙ demanded_sum d (quantised cs) n e)
 
       -- and no other does
-      pub hushed : ((n + 1) % d ≡ 0 → ⊥) → get_or (given_of fresh cs) n Nothing ≡ Nothing
+      pub hushed : ((n + 1) % d ≡ 0 → ⊥) → get_or (given_of fresh cs) n None ≡ None
       unfolding output_of
       hushed e = given_at_lem ∙ ap (output_of d) (decimates_at d (omega arith) (quantised cs) n inside ∙ demanded_silent d (quantised cs) n e)
 
       -- exactly that sum, where the latest 3d - 2 quantised samples lie within 2 ^ 44 in both parts
-      pub sounds_exactly : (n + 1) % d ≡ 0 → ((a : ℕ) → a < 3 * d - 2 → Within (ago (quantised cs) n a)) → get_or (given_of fresh cs) n Nothing ≡ Value (scaled_of d (sums_at d (quantised cs) n))
+      pub sounds_exactly : (n + 1) % d ≡ 0 → ((a : ℕ) → a < 3 * d - 2 → Within (ago (quantised cs) n a)) → get_or (given_of fresh cs) n None ≡ Some (scaled_of d (sums_at d (quantised cs) n))
       unfolding output_of
       sounds_exactly e k = given_at_lem ∙ ap (output_of d) (decimates_exactly d (omega arith) sized.decimation_high (quantised cs) n inside e k)
 
       -- so where those mixed samples have parts of at most 2 ^ 29 in size
-      pub sounds_small : (n + 1) % d ≡ 0 → ((i : ℕ) → i ≤ n → n < i + (3 * d - 2) → Small (get_or (mixed cs) i zero_pair)) → get_or (given_of fresh cs) n Nothing ≡ Value (scaled_of d (sums_at d (quantised cs) n))
+      pub sounds_small : (n + 1) % d ≡ 0 → ((i : ℕ) → i ≤ n → n < i + (3 * d - 2) → Small (get_or (mixed cs) i zero_pair)) → get_or (given_of fresh cs) n None ≡ Some (scaled_of d (sums_at d (quantised cs) n))
       sounds_small e k = sounds_exactly e (λ a m. small_counts (conjugated_of profile) (fresh_oscillator rate offset) (taken_of fresh cs) n a (λ h. k (n - a) (omega arith) (omega arith)))
 
     -- what was taken more than 3d - 2 samples ago leaves nothing behind
     pub forgets_within : (cs es : List Call) (n : ℕ) → n < length (taken_of fresh cs) → n < length (taken_of fresh es)
         → ((i : ℕ) → i ≤ n → n < i + (3 * d - 2) → get_or (taken_of fresh cs) i zero_pair ≡ get_or (taken_of fresh es) i zero_pair)
-        → get_or (given_of fresh cs) n Nothing ≡ get_or (given_of fresh es) n Nothing
+        → get_or (given_of fresh cs) n None ≡ get_or (given_of fresh es) n None
     forgets_within cs es n l m same =
         let some = sized.decimation_low in
         let p = mixed_all cs in
         let q = mixed_all es in
-        ap (λ (os : List Output). get_or os n Nothing) (given_fresh cs)
+        ap (λ (os : List (Option Complex32)). get_or os n None) (given_fresh cs)
         ∙ outputs_forget d (omega arith) zero_pair (mixed cs) (mixed es) n (omega arith) (omega arith)
         (λ i h k. mixed_same (conjugated_of profile) (fresh_oscillator rate offset) zero_pair (taken_of fresh cs) (taken_of fresh es) i (omega arith) (omega arith) (same i h k))
-        ∙ ap (λ (os : List Output). get_or os n Nothing) (sym (given_fresh es))
+        ∙ ap (λ (os : List (Option Complex32)). get_or os n None) (sym (given_fresh es))
 
 -- such setups there are: 384,000 samples a second (P9), d = 2, in the middle of the band, with room for 9,216 taps
 abbrev p9 : Float
@@ -308,9 +305,9 @@ p9_decimates profile table h = (rw (p9_rate, p9_offset, p9_sizes.1, le-ltb (leng
 -- ---- a state that was handed in: from the fourth output on its samples alone decide, whatever its integrators and combs held
 pub recovers_within : (r : Receiver) → admitted_of r ≡ true → 1 < r.front.decimator.decimation → Words r.front.decimator.integrators.real → Words r.front.decimator.integrators.imaginary
     → (cs : List Call) (n : ℕ) → n < length (taken_of r cs) → 4 * r.front.decimator.decimation ≤ r.front.decimator.counter + n + 1
-    → get_or (given_of r cs) n Nothing
+    → get_or (given_of r cs) n None
     ≡ cond (eqb ((r.front.decimator.counter + n + 1) % r.front.decimator.decimation) 0)
-    (Value (scaled_of r.front.decimator.decimation (wrapped_sums r.front.decimator.decimation (map counts_of (mixed_row (conjugated_of r.chain.profile) r.front.oscillator (taken_of r cs))) n))) Nothing
+    (Some (scaled_of r.front.decimator.decimation (wrapped_sums r.front.decimator.decimation (map counts_of (mixed_row (conjugated_of r.chain.profile) r.front.oscillator (taken_of r cs))) n))) None
 unfolding output_of
 recovers_within r h D R I cs n l m =
     let t = r.front.decimator in
@@ -318,11 +315,11 @@ recovers_within r h D R I cs n l m =
     let early : t.counter < t.decimation = (fits_from r.total r.front r.chain r.second r.parents r.ancestors h).front_fits.decimator.counter_in in
     let a = length-map zs counts_of in
     let b = mixed_length (conjugated_of r.chain.profile) r.front.oscillator (taken_of r cs) in
-    ap (λ (os : List Output). get_or os n Nothing) (given_is r cs)
+    ap (λ (os : List (Option Complex32)). get_or os n None) (given_is r cs)
     ∙ answered_at t.decimation D t (record { by = refl; early = early }) zs n
     ∙ ap (output_of t.decimation) (recovers t R I early (map counts_of zs) n (omega arith) m)
     ∙ through (eqb ((t.counter + n + 1) % t.decimation) 0) (wrapped_sums t.decimation (map counts_of zs) n)
   where
-    through : (b : Bool) (v : Counts) → output_of r.front.decimator.decimation (cond b (Sum v) Silent) ≡ cond b (Value (scaled_of r.front.decimator.decimation v)) Nothing
+    through : (b : Bool) (v : Counts) → output_of r.front.decimator.decimation (cond b (Some v) None) ≡ cond b (Some (scaled_of r.front.decimator.decimation v)) None
     through true v = refl
     through false v = refl

@@ -1,5 +1,5 @@
 -- The first value. At 384,000 samples a second the resampler makes its first of the 576th sample, when 288 decimated values have come: so what the front's theorems say of values, they say of something. Assumes nothing.
-use Rattle.std.specs.Prelude.{◌≡◌, refl, Bool, true, false, cond, ltb, pos, length, get_or, set, take, Float}
+use Rattle.std.specs.Prelude.{◌≡◌, refl, Bool, true, false, cond, ltb, pos, length, get_or, set, take, Float, Option, Some, None}
 use Rattle.std.proofs.Common.{sym, ap, ◌∙◌, eq-zero-or-pos, lt-ltb, le-ltb}
 use Rattle.std.proofs.Math.Path.{subst}
 use mathlib.Core.List.{List, [], ◌∷◌}
@@ -12,8 +12,6 @@ use Rattle.numbers.specs.Constants.{zero64}
 use Rattle.laws.specs.Turns.{turns, until, until_stop}
 use Rattle.whole.specs.Whole.{whole_of}
 use Rattle.complex.specs.declared.Complex32.{Complex32}
-use Rattle.decimator.specs.declared.Output.{Output}
-use Rattle.decimator.specs.declared.Output.TheVariants.{Nothing, Value}
 use Rattle.decimator.specs.Decimator.{fresh_of}
 use Rattle.resampler.specs.declared.pass.Delivery.{Delivery}
 use Rattle.resampler.specs.Dimensions as resampler
@@ -48,7 +46,7 @@ first_position = refl
 value_waits : (j : ℕ) (h : ResamplerState) → Filling j h → waiting_of (pushed_of h.resampler) (placed_of h.resampler.next) ≡ ltb (j + 1) 288
 value_waits j h k = (λ i. ltb (k.index i + 1) ((placed_of (k.next i)).position + (k.arm i - k.half i))) ∙ ap (λ (p : ℕ). ltb (j + 1) (p + (288 - 144))) first_position
 
-filling_one_more : (j : ℕ) (h : ResamplerState) (v : Complex32) → j + 1 < 288 → Filling j h → Filling (j + 1) (resample_state [] h (Value v))
+filling_one_more : (j : ℕ) (h : ResamplerState) (v : Complex32) → j + 1 < 288 → Filling j h → Filling (j + 1) (resample_state [] h (Some v))
 unfolding resample_state resampled_of delivered_of
 filling_one_more j h v l k =
     let q = pushed_of h.resampler in
@@ -57,7 +55,7 @@ filling_one_more j h v l k =
     let e = until_stop (is_done q) (pass_turn q [] xs ys) 2 (start_of q.next) (value_waits j h k ∙ lt-ltb (j + 1) 288 l) in
     record { arm = k.arm; half = k.half; index = ap (λ (n : ℕ). n + 1) k.index; next = ap (λ (d : Delivery). d.next) e ∙ k.next }
 
-filling_stays : (j : ℕ) (h : ResamplerState) → Filling j h → Filling j (resample_state [] h Nothing)
+filling_stays : (j : ℕ) (h : ResamplerState) → Filling j h → Filling j (resample_state [] h None)
 unfolding resample_state
 filling_stays j h k = k
 
@@ -74,7 +72,7 @@ first_of : (n : ℕ) (a b : Complex32) → 0 < n → (v : Complex32) × ((vs : L
 first_of zero a b l = absurd (omega arith)
 first_of (suc n) a b l = (a, (take n (b ∷ []), refl))
 
-value_made : (table : List Float) (h : ResamplerState) (v : Complex32) → Filling 287 h → (w : Complex32) × ((ws : List Complex32) × (resample_values table h (Value v) ≡ w ∷ ws))
+value_made : (table : List Float) (h : ResamplerState) (v : Complex32) → Filling 287 h → (w : Complex32) × ((ws : List Complex32) × (resample_values table h (Some v) ≡ w ∷ ws))
 unfolding resample_values resampled_of delivered_of
 value_made table h v k =
     let q = pushed_of h.resampler in
@@ -85,18 +83,18 @@ value_made table h v k =
     (some_made (is_done q) (pass_turn q table xs ys) (start_of q.next) (λ e. count_emitted e q.step (filtered_of q table xs ys (placed_of e.next).phase)) (value_waits 287 h k ∙ le-ltb (287 + 1) 288 (omega arith)))
 
 -- ---- along a row with a value at every second place
-module _ (os : List Output) (P : Paced 2 0 os) (h : ResamplerState) (k : Filling 0 h) where
+module _ (os : List (Option Complex32)) (P : Paced 2 0 os) (h : ResamplerState) (k : Filling 0 h) where
   filling_at : (n : ℕ) → n ≤ length os → n < 576 → Filling (n / 2) (ring_after h os n)
   unfolding turns
   filling_at zero a b = subst (λ (j : ℕ). Filling j h) (let e : 0 ≡ 0 / 2 = omega arith in e) k
   filling_at (suc n) a b = elim (eq-zero-or-pos ((0 + n + 1) % 2)) [
     | inl e ↦
         let o = P.sounds n (omega arith) e in
-        subst (λ (j : ℕ). Filling j (resample_state [] (ring_after h os n) (get_or os n Nothing))) (let f : n / 2 + 1 ≡ suc n / 2 = omega arith in f)
-        (subst (λ (x : Output). Filling (n / 2 + 1) (resample_state [] (ring_after h os n) x)) (sym o.1) (filling_one_more (n / 2) (ring_after h os n) o.0 (omega arith) (filling_at n (omega arith) (omega arith))))
+        subst (λ (j : ℕ). Filling j (resample_state [] (ring_after h os n) (get_or os n None))) (let f : n / 2 + 1 ≡ suc n / 2 = omega arith in f)
+        (subst (λ (x : Option Complex32). Filling (n / 2 + 1) (resample_state [] (ring_after h os n) x)) (sym o.1) (filling_one_more (n / 2) (ring_after h os n) o.0 (omega arith) (filling_at n (omega arith) (omega arith))))
     | inr p ↦
-        subst (λ (j : ℕ). Filling j (resample_state [] (ring_after h os n) (get_or os n Nothing))) (let f : n / 2 ≡ suc n / 2 = omega arith in f)
-        (subst (λ (x : Output). Filling (n / 2) (resample_state [] (ring_after h os n) x)) (sym (P.quiet n (omega arith) (λ e. omega arith))) (filling_stays (n / 2) (ring_after h os n) (filling_at n (omega arith) (omega arith))))
+        subst (λ (j : ℕ). Filling j (resample_state [] (ring_after h os n) (get_or os n None))) (let f : n / 2 ≡ suc n / 2 = omega arith in f)
+        (subst (λ (x : Option Complex32). Filling (n / 2) (resample_state [] (ring_after h os n) x)) (sym (P.quiet n (omega arith) (λ e. omega arith))) (filling_stays (n / 2) (ring_after h os n) (filling_at n (omega arith) (omega arith))))
   ]
 
 -- ---- from the setup

@@ -1,6 +1,6 @@
 -- What the whole front forgets, over the receiver's calls. After an accepted setup the values that the resampler makes of a sample depend on the latest (c + 2) d - 2 samples taken and on the table lent with it. A state that was
 -- handed in leaves nothing behind once (c + 3) d samples have come since its last decimated value, c where d = 1: whatever its integrators, combs and rings held. Refused calls change nothing of this. Assumes nothing.
-use Rattle.std.specs.Prelude.{◌≡◌, Bool, cond, List, [], ◌∷◌, map, ltb, eqb, ℤ, length, get_or, Float}
+use Rattle.std.specs.Prelude.{◌≡◌, Bool, cond, List, [], ◌∷◌, map, ltb, eqb, ℤ, length, get_or, Float, Option, Some, None}
 use Rattle.std.proofs.Math.Path.{refl}
 use Rattle.std.proofs.Common.{sym, ap, ◌∙◌, subst, ⊎_elim, add-mul, arith, lt-ltb, le-ltb, le-leb}
 use Prim.Native.Nat.{ℕ, zero, suc, ◌+◌, ◌-◌, ◌*◌, ◌%◌, ◌≤◌, ◌<◌}
@@ -11,8 +11,6 @@ use Rattle.laws.specs.Ring.{latest, lt_or_ge}
 use Rattle.whole.specs.Whole.{whole_of}
 use Rattle.complex.specs.declared.Complex32.{Complex32}
 use Rattle.complex.specs.Complex.{zero_pair}
-use Rattle.decimator.specs.declared.Output.{Output}
-use Rattle.decimator.specs.declared.Output.TheVariants.{Nothing, Value}
 use Rattle.decimator.specs.declared.Counts.{Counts}
 use Rattle.decimator.specs.Decimator.{quantised_of, counts_of, scaled_of}
 use Rattle.decimator.specs.Demand.{no_counts, ago, wrapped}
@@ -87,7 +85,7 @@ pub record Alike (r q : Receiver) : Type 0 where
   pub first_typed : FrontTyped r
   pub second_typed : FrontTyped q
 
-value_at : (zs : List Complex32) (n : ℕ) → n < length zs → get_or (map Value zs) n Nothing ≡ Value (get_or zs n zero_pair)
+value_at : (zs : List Complex32) (n : ℕ) → n < length zs → get_or (map Some zs) n None ≡ Some (get_or zs n zero_pair)
 value_at [] n l = absurd (omega arith)
 value_at (z ∷ zs) zero l = refl
 value_at (z ∷ zs) (suc n) l = value_at zs n (omega arith)
@@ -127,30 +125,30 @@ module _ (r q : Receiver) (k : Alike r q) (cs es : List Call) where
 
   module _ (i : ℕ) (l : i < length (taken_of r cs)) (m : i < length (taken_of q es)) (same : (j : ℕ) → j ≤ i → i < j + (3 * r.front.decimator.decimation - 2) → Taken j) where
     -- d > 1: from the fourth output on
-    given_above : 1 < r.front.decimator.decimation → 4 * r.front.decimator.decimation ≤ r.front.decimator.counter + i + 1 → get_or (given_of r cs) i Nothing ≡ get_or (given_of q es) i Nothing
+    given_above : 1 < r.front.decimator.decimation → 4 * r.front.decimator.decimation ≤ r.front.decimator.counter + i + 1 → get_or (given_of r cs) i None ≡ get_or (given_of q es) i None
     given_above D h =
         let d = r.front.decimator.decimation in
         let e = k.decimation in
         let f = k.counter in
         let early = (fits r q cs es i 0 l m e f).decimator.counter_in in
         recovers_within r (taken_admitted r cs (omega arith)) D k.first_typed.real_words k.first_typed.imaginary_words cs i l h
-        ∙ ap (λ (v : Counts). cond (eqb ((r.front.decimator.counter + i + 1) % d) 0) (Value (scaled_of d v)) Nothing)
+        ∙ ap (λ (v : Counts). cond (eqb ((r.front.decimator.counter + i + 1) % d) 0) (Some (scaled_of d v)) None)
         (sums_alike d mixed_first mixed_second i (omega arith) (λ j a b. mixed_alike j (omega arith) (omega arith) (same j a b)))
-        ∙ (λ x. cond (eqb ((f x + i + 1) % e x) 0) (Value (scaled_of (e x) (wrapped_sums (e x) (map counts_of mixed_second) i))) Nothing)
+        ∙ (λ x. cond (eqb ((f x + i + 1) % e x) 0) (Some (scaled_of (e x) (wrapped_sums (e x) (map counts_of mixed_second) i))) None)
         ∙ sym (recovers_within q (taken_admitted q es (omega arith)) (omega arith) k.second_typed.real_words k.second_typed.imaginary_words es i m (omega arith))
 
     -- d = 1 passes the mixed samples through
-    given_through : r.front.decimator.decimation ≤ 1 → get_or (given_of r cs) i Nothing ≡ get_or (given_of q es) i Nothing
+    given_through : r.front.decimator.decimation ≤ 1 → get_or (given_of r cs) i None ≡ get_or (given_of q es) i None
     given_through D =
         let f = k.decimation in
         let some = (fits r q cs es i 0 l m f k.counter).decimator.decimation_low in
         let a = mixed_length (conjugated_of r.chain.profile) r.front.oscillator (taken_of r cs) in
         let b = mixed_length (conjugated_of q.chain.profile) q.front.oscillator (taken_of q es) in
-        ap (λ (os : List Output). get_or os i Nothing) (given_is r cs ∙ outputs_through r.front.decimator D mixed_first)
+        ap (λ (os : List (Option Complex32)). get_or os i None) (given_is r cs ∙ outputs_through r.front.decimator D mixed_first)
         ∙ value_at mixed_first i (omega arith)
-        ∙ ap Value (mixed_alike i l m (same i (omega arith) (omega arith)))
+        ∙ ap Some (mixed_alike i l m (same i (omega arith) (omega arith)))
         ∙ sym (value_at mixed_second i (omega arith))
-        ∙ ap (λ (os : List Output). get_or os i Nothing) (sym (given_is q es ∙ outputs_through q.front.decimator (omega arith) mixed_second))
+        ∙ ap (λ (os : List (Option Complex32)). get_or os i None) (sym (given_is q es ∙ outputs_through q.front.decimator (omega arith) mixed_second))
 
   like_start : (n : ℕ) → n < length (taken_of r cs) → n < length (taken_of q es) → (j : ℕ) → j ≤ r.front.resampler.arm → j * r.front.decimator.decimation ≤ 0 * r.front.decimator.decimation + r.front.decimator.counter → Like j (ring_in r) (ring_in q)
   unfolding latest upto

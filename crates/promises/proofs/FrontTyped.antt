@@ -1,5 +1,5 @@
 -- What a setup gives its front, what the type of a state says of it, and that every state from a call has it. Assumes nothing.
-use Rattle.std.specs.Prelude.{◌≡◌, refl, Bool, true, false, List, [], ℕ, zero, suc, ◌+◌, ◌%◌, ◌^◌, ◌<◌, ltb, ℤ, length, Float}
+use Rattle.std.specs.Prelude.{◌≡◌, refl, Bool, true, false, List, [], ℕ, zero, suc, ◌+◌, ◌%◌, ◌^◌, ◌<◌, ltb, ℤ, length, Float, Option, Some, None}
 use Rattle.std.proofs.Common.{sym, ◌∙◌, subst, inl, inr, mod-lt, lit<, length-set}
 use Rattle.std.proofs.Math.Path.{ap}
 use Rattle.std.proofs.lemmas.List.{length-replicate}
@@ -7,10 +7,8 @@ use Rattle.laws.specs.Turns.{turns}
 use Rattle.laws.specs.Modulo.{modulo}
 use Rattle.numbers.specs.Constants.{zero32}
 use Rattle.complex.specs.declared.Complex32.{Complex32}
-use Rattle.decimator.specs.declared.Sums.{Sums}
+use Rattle.decimator.specs.declared.Stages.{Stages}
 use Rattle.decimator.specs.declared.Decimator.{Decimator}
-use Rattle.decimator.specs.declared.Output.{Output}
-use Rattle.decimator.specs.declared.Output.TheVariants.{Nothing, Value}
 use Rattle.decimator.specs.Decimator.{integrated_of, advanced_of, counts_of, fresh_of, stepped_of}
 use Rattle.decimator.proofs.Part.{Words}
 use Rattle.oscillator.specs.Oscillator.{conjugated_of, mixed_of}
@@ -62,7 +60,7 @@ record Sound (g : front.Rung) : Type 0 where
   ring_real : length g.real ≡ 592
   ring_imaginary : length g.imaginary ≡ 592
 
-summed_words : (s : Sums) (n : ℤ) → Words (integrated_of s n)
+summed_words : (s : Stages) (n : ℤ) → Words (integrated_of s n)
 unfolding integrated_of
 summed_words s n =
     let a = s.first + modulo (2 ^ 64) n in
@@ -85,10 +83,10 @@ step_words s z a b = go (ltb 1 s.decimation) (ltb (s.counter + 1) s.decimation) 
     go true false e f = rw (e, f) (x, y)
     go false c e f = rw e (a, b)
 
-ring_size_kept : (table : List Float) (h : ResamplerState) (o : Output) → (length (resample_state table h o).real ≡ length h.real) × (length (resample_state table h o).imaginary ≡ length h.imaginary)
+ring_size_kept : (table : List Float) (h : ResamplerState) (o : Option Complex32) → (length (resample_state table h o).real ≡ length h.real) × (length (resample_state table h o).imaginary ≡ length h.imaginary)
 unfolding resample_state resampled_of
-ring_size_kept table h Nothing = (refl, refl)
-ring_size_kept table h (Value v) = (length-set h.real h.resampler.write v.real, length-set h.imaginary h.resampler.write v.imaginary)
+ring_size_kept table h None = (refl, refl)
+ring_size_kept table h (Some v) = (length-set h.real h.resampler.write v.real, length-set h.imaginary h.resampler.write v.imaginary)
 
 step_sound : (conjugated : Bool) (table : List Float) (g : front.Rung) (x : Complex32) → Sound g → Sound (front.front_step conjugated table g x).rung
 unfolding front.front_step

@@ -1,6 +1,6 @@
 -- That the theorems speak of something. From every accepted setup finite samples are accepted in any parts; a setup at 384,000 samples a second is accepted, and from its state a block of zero samples, of which two make the
 -- decimator's first output. Assumes nothing.
-use Rattle.std.specs.Prelude.{◌≡◌, true, cond, ◌&&◌, List, [], ◌∷◌, ◌++◌, ℕ, ◌+◌, ◌*◌, ◌%◌, ◌^◌, ◌≤◌, ltb, eqb, ℤ, pos, length, get_or, replicate, Float}
+use Rattle.std.specs.Prelude.{◌≡◌, true, cond, ◌&&◌, List, [], ◌∷◌, ◌++◌, ℕ, ◌+◌, ◌*◌, ◌%◌, ◌^◌, ◌≤◌, ltb, eqb, ℤ, pos, length, get_or, replicate, Float, Some, None}
 use Rattle.std.proofs.Math.Path.{refl, ap}
 use Rattle.std.proofs.Common.{sym, ◌∙◌, subst, append-nil, arith}
 use Rattle.std.proofs.lemmas.List.{length-replicate, get_or-replicate}
@@ -11,7 +11,6 @@ use Rattle.numbers.specs.Numbers.{is_finite}
 use Rattle.numbers.specs.Constants.{zero32, zero64}
 use Rattle.complex.specs.declared.Complex32.{Complex32}
 use Rattle.complex.specs.Complex.{zero_pair}
-use Rattle.decimator.specs.declared.Output.TheVariants.{Nothing, Value}
 use Rattle.resampler.specs.Dimensions.{sized_of}
 use Rattle.front.specs.Front as front
 use Rattle.receiver_state.specs.declared.state.Receiver.{Receiver}
@@ -122,14 +121,14 @@ pub two_taken : taken_of receiver (silence 2 ∷ []) ≡ zero_pair ∷ zero_pair
 two_taken = silence_taken 2 (omega arith) ∙ unfold front.samples_of upto in refl
 
 -- the first of them gives the resampler nothing
-pub first_hushed : get_or (given_of receiver (silence 2 ∷ [])) 0 Nothing ≡ Nothing
+pub first_hushed : get_or (given_of receiver (silence 2 ∷ [])) 0 None ≡ None
 first_hushed =
     let l = all_taken 2 (omega arith) in
     let d = by_two in
     hushed rate zero64 (pos 0) lent setup_accepted (silence 2 ∷ []) (omega arith) 0 (omega arith) (λ e. let f = ap (λ (k : ℕ). (0 + 1) % k) (sym by_two) ∙ e in let g : (0 + 1) % 2 ≡ 1 = omega arith in omega arith)
 
 -- and the second a decimated value, d being 2
-pub second_sounds : (v : Complex32) × (get_or (given_of receiver (silence 2 ∷ [])) 1 Nothing ≡ Value v)
+pub second_sounds : (v : Complex32) × (get_or (given_of receiver (silence 2 ∷ [])) 1 None ≡ Some v)
 second_sounds =
     let l = all_taken 2 (omega arith) in
     let d = by_two in

@@ -1,10 +1,9 @@
 -- What a receiver takes in calls one after the other, and what its decimator gives the resampler for each sample. Definitions only.
-use Rattle.std.specs.Prelude.{Bool, cond, List, [], ◌∷◌, ◌++◌, ℕ, eqb, Float}
+use Rattle.std.specs.Prelude.{Bool, cond, List, [], ◌∷◌, ◌++◌, ℕ, eqb, Float, Option}
 use Rattle.laws.specs.Places.{upto}
 use Rattle.complex.specs.declared.Complex32.{Complex32}
 use Rattle.oscillator.specs.declared.Oscillator.{Oscillator}
 use Rattle.oscillator.specs.Oscillator.{conjugated_of, turned_of, mixed_of}
-use Rattle.decimator.specs.declared.Output.{Output}
 use Rattle.front.specs.Front as front
 use Rattle.receiver_state.specs.declared.state.Receiver.{Receiver}
 use Rattle.samples.specs.Samples.{count_of}
@@ -33,11 +32,11 @@ taken_of r (c ∷ cs) = taken_where (eqb (answered_of r c).number 0) c ++ taken_
 abbrev pub rung_before : Receiver → Call → ℕ → front.Rung
 rung_before r c k = (front_at (conjugated_of r.chain.profile) c.table c.samples (start_of r c.rooms) k).rung
 
-abbrev pub given_at : Receiver → Call → ℕ → Output
+abbrev pub given_at : Receiver → Call → ℕ → Option Complex32
 given_at r c k = (front.step_of (conjugated_of r.chain.profile) (rung_before r c k).place.oscillator (rung_before r c k).place.decimator (front.sample_at c.samples k)).output
 
 -- what it gives for each sample taken
-unfoldable pub given_of : Receiver → List Call → List Output
+unfoldable pub given_of : Receiver → List Call → List (Option Complex32)
 given_of r [] = []
 given_of r (c ∷ cs) = cond (eqb (answered_of r c).number 0) (upto (given_at r c) (count_of c.samples)) [] ++ given_of (answered_of r c).receiver cs
 

@@ -5,6 +5,7 @@
 
 ghost use Rattle.std.specs.Prelude.{◌≡◌, ◌+◌, ◌≤◌, length};
 
+use decimator::{Decimator, Parts, Stages};
 use numbers::bits::{float32, pattern, pattern32};
 
 const OUT: i32 = 1;
@@ -27,9 +28,18 @@ pub fn mixed(h: u64, x: u64) -> u64 {
     e ^ (e >> 14)
 }
 
-// The digest with three answers more.
-pub fn mixed_three(h: u64, first: u64, second: u64, third: u64) -> u64 {
-    mixed(mixed(mixed(h, first), second), third)
+fn mixed_stages(h: u64, s: Stages) -> u64 {
+    mixed(mixed(mixed(h, s.first), s.second), s.third)
+}
+
+fn mixed_parts(h: u64, p: Parts) -> u64 {
+    mixed_stages(mixed_stages(h, p.real), p.imaginary)
+}
+
+// The digest with a decimator more: its counter, its integrators and its combs.
+pub fn mixed_decimator(h: u64, d: Decimator) -> u64 {
+    let counted = mixed(h, d.counter as u64);
+    mixed_parts(mixed_parts(counted, d.integrators), d.combs)
 }
 
 pub fn mixed_float(h: u64, x: f64) -> u64 {

@@ -6,28 +6,27 @@
 ghost use Rattle.std.specs.Prelude.{◌+◌, ◌<◌, ◌≤◌, length};
 
 use complex::Complex32;
-use decimator::{Combs, Decimator, Delays, Integrators, Output, Sums};
-use replay::{any, mixed, mixed_float32, mixed_three, print_line, word};
+use decimator::{Decimator, Parts, Stages};
+use replay::{any, mixed, mixed_decimator, mixed_float32, print_line, word};
 
 // Three words from a place of a run's head on.
-fn sums(head: &[u8], at: usize) -> Sums
+fn stages(head: &[u8], at: usize) -> Stages
     requires { at + 24 ≤ length head.now }
 {
-    Sums {
+    Stages {
         first: word(head, at),
         second: word(head, at + 8),
         third: word(head, at + 16),
     }
 }
 
-// The same as delays.
-fn delays(head: &[u8], at: usize) -> Delays
-    requires { at + 24 ≤ length head.now }
+// The stages of both parts, from a place on.
+fn parts(head: &[u8], at: usize) -> Parts
+    requires { at + 48 ≤ length head.now }
 {
-    Delays {
-        first: word(head, at),
-        second: word(head, at + 8),
-        third: word(head, at + 16),
+    Parts {
+        real: stages(head, at),
+        imaginary: stages(head, at + 24),
     }
 }
 
@@ -35,44 +34,19 @@ fn delays(head: &[u8], at: usize) -> Delays
 fn decoded(head: &[u8]) -> Decimator
     requires { 120 ≤ length head.now }
 {
-    let decimation = word(head, 0) as usize;
-    let counter = word(head, 8) as usize;
-    let integrators = Integrators {
-        real: sums(head, 16),
-        imaginary: sums(head, 40),
-    };
-    let combs = Combs {
-        real: delays(head, 64),
-        imaginary: delays(head, 88),
-    };
     Decimator {
-        decimation,
-        counter,
-        integrators,
-        combs,
+        decimation: word(head, 0) as usize,
+        counter: word(head, 8) as usize,
+        integrators: parts(head, 16),
+        combs: parts(head, 64),
     }
 }
 
-// The digest with a decimator more: its counter, its integrators and its combs.
-fn mixed_decimator(h: u64, d: Decimator) -> u64 {
-    let integrators = d.integrators;
-    let combs = d.combs;
-    let a = integrators.real;
-    let b = integrators.imaginary;
-    let p = combs.real;
-    let q = combs.imaginary;
-    let counted = mixed(h, d.counter as u64);
-    let real = mixed_three(counted, a.first, a.second, a.third);
-    let sums = mixed_three(real, b.first, b.second, b.third);
-    let delays = mixed_three(sums, p.first, p.second, p.third);
-    mixed_three(delays, q.first, q.second, q.third)
-}
-
 // The digest with an output more.
-fn mixed_output(h: u64, o: Output) -> u64 {
-    match o {
-        Output::Nothing => mixed(h, 0),
-        Output::Value(v) => mixed_float32(mixed_float32(mixed(h, 1), v.real), v.imaginary),
+fn mixed_output(h: u64, output: Option<Complex32>) -> u64 {
+    match output {
+        None => mixed(h, 0),
+        Some(v) => mixed_float32(mixed_float32(mixed(h, 1), v.real), v.imaginary),
     }
 }
 
@@ -90,16 +64,12 @@ fn digest(d0: Decimator, count: u64) -> u64
 {
     let mut d = d0;
     let mut h: u64 = 0;
-    let mut left = count;
-    while left > 0 {
+    for _ in 0..count {
         let mut bytes = [0u8; 8];
         io::read_full(0, &mut bytes);
         let s = decimator::stepped(d, sample(word(&bytes, 0)));
-        let next = s.decimator;
-        let output = s.output;
-        h = mixed_output(h, output);
-        d = next;
-        left -= 1;
+        h = mixed_output(h, s.output);
+        d = s.decimator;
     }
     mixed_decimator(h, d)
 }
@@ -119,12 +89,9 @@ fn answered() -> bool {
 }
 
 fn main() {
-    let mut left: u64 = 1000000;
-    while left > 0 {
-        if answered() {
-            left -= 1;
-        } else {
-            left = 0;
+    for _ in 0..1000000 {
+        if !answered() {
+            break;
         }
     }
 }

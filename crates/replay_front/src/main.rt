@@ -7,13 +7,12 @@ ghost use Rattle.std.specs.Prelude.{◌≡◌, not, ◌+◌, ◌-◌, ◌^◌, �
 ghost use Rattle.std.specs.Float.Ieee.{is_nan};
 ghost use Rattle.front.specs.Admitted.{Admitted, Numbers};
 
-use decimator::Decimator;
 use front::{FrontPlace, ROW};
 use numbers::bits::float;
 use numbers::compare::is_nan;
 use oscillator::Oscillator;
 use replay::{
-    mixed, mixed_float, mixed_float32, mixed_plane, mixed_three, next, print_line, sample_part,
+    mixed, mixed_decimator, mixed_float, mixed_float32, mixed_plane, next, print_line, sample_part,
     word,
 };
 use resampler::design::TABLE;
@@ -66,15 +65,12 @@ fn number(x: f32) -> f32
 
 // The parts of a block's samples, and the seed after them.
 fn fill(seed: u64, kind: u64, samples: &mut [f32; 1024]) -> u64
-    requires { length samples.old ≡ 1024 }
-    ensures { Numbers samples.new × (length samples.new ≡ 1024) }
+    ensures { Numbers samples.new }
 {
     let mut s = seed;
-    let mut i = 0;
-    while i < 1024 {
+    for i in 0..1024 {
         s = next(s);
         samples[i] = number(sample_part(s, kind));
-        i += 1;
     }
     s
 }
@@ -84,10 +80,8 @@ fn mixed_row(h: u64, real: &[f32; ROW], imaginary: &[f32; ROW], made: usize) -> 
     requires { made ≤ 256 }
 {
     let mut d = h;
-    let mut i = 0;
-    while i < made {
-        d = mixed_float32(mixed_float32(d, real[i]), imaginary[i]);
-        i += 1;
+    for (&x, &y) in real[..made].iter().zip(imaginary[..made].iter()) {
+        d = mixed_float32(mixed_float32(d, x), y);
     }
     d
 }
@@ -138,29 +132,13 @@ fn mixed_oscillator(h: u64, o: Oscillator) -> u64 {
     mixed(step, o.renormalize as u64)
 }
 
-fn mixed_decimator(h: u64, d: Decimator) -> u64 {
-    let integrators = d.integrators;
-    let combs = d.combs;
-    let a = integrators.real;
-    let b = integrators.imaginary;
-    let p = combs.real;
-    let q = combs.imaginary;
-    let counted = mixed(h, d.counter as u64);
-    let real = mixed_three(counted, a.first, a.second, a.third);
-    let sums = mixed_three(real, b.first, b.second, b.third);
-    let delays = mixed_three(sums, p.first, p.second, p.third);
-    mixed_three(delays, q.first, q.second, q.third)
-}
-
 fn mixed_resampler(h: u64, r: Resampler) -> u64 {
     mixed(mixed_float(mixed(h, r.index), r.next), r.write as u64)
 }
 
 fn mixed_place(h: u64, p: FrontPlace) -> u64 {
-    let o = p.oscillator;
-    let d = p.decimator;
-    let r = p.resampler;
-    mixed_resampler(mixed_decimator(mixed_oscillator(h, o), d), r)
+    let moved = mixed_decimator(mixed_oscillator(h, p.oscillator), p.decimator);
+    mixed_resampler(moved, p.resampler)
 }
 
 fn mixed_ring(h: u64, real: &[f32; PLACES], imaginary: &[f32; PLACES]) -> u64 {
@@ -181,8 +159,7 @@ fn run(
     let mut t = Told { place, digest: 0 };
     let mut s = q.seed;
     let mut skipped = q.skipped;
-    let mut left = q.blocks;
-    while left > 0 {
+    for _ in 0..q.blocks {
         s = fill(s, q.kind, &mut samples);
         if t.place.resampler.index > 4503599627369000 {
             break;
@@ -197,22 +174,19 @@ fn run(
             &mut *ring_imaginary,
         );
         skipped = 0;
-        left -= 1;
     }
-    let last = t.place;
-    mixed_place(t.digest, last)
+    mixed_place(t.digest, t.place)
 }
 
 // A fresh front, but for the oscillator's count of turns.
 fn started(q: Request, s: resampler::dimensions::Dimensions) -> FrontPlace {
-    let mut o = oscillator::fresh(q.rate, q.offset);
-    o.renormalize = q.turns;
-    let d = decimator::fresh(s.decimation);
-    let r = resampler::dimensions::fresh(s);
     FrontPlace {
-        oscillator: o,
-        decimator: d,
-        resampler: r,
+        oscillator: Oscillator {
+            renormalize: q.turns,
+            ..oscillator::fresh(q.rate, q.offset)
+        },
+        decimator: decimator::fresh(s.decimation),
+        resampler: resampler::dimensions::fresh(s),
     }
 }
 
@@ -244,12 +218,9 @@ fn answered() -> bool {
 }
 
 fn main() {
-    let mut left: u64 = 1000000;
-    while left > 0 {
-        if answered() {
-            left -= 1;
-        } else {
-            left = 0;
+    for _ in 0..1000000 {
+        if !answered() {
+            break;
         }
     }
 }

@@ -67,12 +67,10 @@ fn sampled(h: u64, o: Oscillator, real: f32, imaginary: f32, conjugated: bool) -
         };
     }
     let s = oscillator::stepped(o, Complex32 { real, imaginary }, conjugated);
-    let z = s.value;
-    let next = s.oscillator;
-    let so_far = mixed_float32(mixed_float32(h, z.real), z.imaginary);
+    let so_far = mixed_float32(mixed_float32(h, s.value.real), s.value.imaginary);
     Turn {
-        oscillator: next,
-        digest: mixed_oscillator(so_far, next),
+        oscillator: s.oscillator,
+        digest: mixed_oscillator(so_far, s.oscillator),
     }
 }
 
@@ -105,15 +103,13 @@ fn run(before: Oscillator, seed: u64, steps: u64, kind: u64, conjugated: bool) -
     let mut o = before;
     let mut h: u64 = 0;
     let mut s = seed;
-    let mut left = steps;
-    while left > 0 {
+    for _ in 0..steps {
         let first = random(s);
         let second = random(first);
         let t = sampled(h, o, part(first, kind), part(second, kind), conjugated);
         h = t.digest;
         o = t.oscillator;
         s = second;
-        left -= 1;
     }
     print_line(h, 16);
     o
@@ -138,14 +134,10 @@ fn played(before: Oscillator, record: &[u8; 48]) -> Oscillator
 fn main() {
     let mut o = oscillator::fresh(9600.0, 0.0);
     let mut record = [0u8; 48];
-    let mut left: u64 = 1000000;
-    while left > 0 {
-        let got = io::read_full(0, &mut record);
-        if got < RECORD {
-            left = 0;
-        } else {
-            o = played(o, &record);
-            left -= 1;
+    for _ in 0..1000000 {
+        if io::read_full(0, &mut record) < RECORD {
+            break;
         }
+        o = played(o, &record);
     }
 }

@@ -8,7 +8,7 @@ ghost use Rattle.resampler.specs.Admitted.{Admitted};
 ghost use Rattle.replay_resampler.specs.Held.{Held};
 
 use complex::Complex32;
-use decimator::{Decimator, Output};
+use decimator::Decimator;
 use numbers::bits::float;
 use replay::{mixed, mixed_float, mixed_float32, mixed_plane, next, print_line, sample_part, word};
 use resampler::design::TABLE;
@@ -74,17 +74,15 @@ fn filling(handed: u64, place: usize, slope: f32, offset: f32) -> f32
 
 // The ring that stands there: zeros, or numbers that tell the places apart.
 fn fill(handed: u64, reals: &mut [f32; PLACES], imaginaries: &mut [f32; PLACES]) {
-    let mut i = 0;
-    while i < 592 {
+    for i in 0..PLACES {
         reals[i] = filling(handed, i, 1.0, 100.5);
         imaginaries[i] = filling(handed, i, -1.0, -200.25);
-        i += 1;
     }
 }
 
 // A decimated value, or none, into the resampler.
 fn taken(
-    o: Output,
+    value: Option<Complex32>,
     r: Resampler,
     table: &[f32; TABLE],
     reals: &mut [f32; PLACES],
@@ -94,15 +92,14 @@ fn taken(
     requires index_bound { r.index < 2 ^ 52 }
     ensures { Held r result }
 {
-    let zero = complex::zero();
-    match o {
-        Output::Nothing => Passed {
+    match value {
+        None => Passed {
             resampler: r,
             count: 0,
-            first: zero,
-            second: zero,
+            first: complex::zero(),
+            second: complex::zero(),
         },
-        Output::Value(v) => resampler::pass::resampled(r, v, table, reals, imaginaries),
+        Some(v) => resampler::pass::resampled(r, v, table, reals, imaginaries),
     }
 }
 
@@ -112,11 +109,13 @@ fn mixed_pair(h: u64, v: Complex32) -> u64 {
 
 fn mixed_outputs(h: u64, p: Passed) -> u64 {
     let a = mixed(h, p.count as u64);
-    let first = p.first;
-    let second = p.second;
-    let b = if p.count > 0 { mixed_pair(a, first) } else { a };
+    let b = if p.count > 0 {
+        mixed_pair(a, p.first)
+    } else {
+        a
+    };
     if p.count > 1 {
-        mixed_pair(b, second)
+        mixed_pair(b, p.second)
     } else {
         b
     }
@@ -145,8 +144,10 @@ fn run(
     let mut r = r0;
     let mut s = q.seed;
     let mut h: u64 = 0;
-    let mut left = q.count;
-    while left > 0 && r.index < MOST {
+    for _ in 0..q.count {
+        if r.index >= MOST {
+            break;
+        }
         let t = next(s);
         s = next(t);
         let z = Complex32 {
@@ -154,17 +155,13 @@ fn run(
             imaginary: sample_part(s, q.kind),
         };
         let n = decimator::stepped(d, z);
-        let output = n.output;
-        let p = taken(output, r, table, &mut *reals, &mut *imaginaries);
+        let p = taken(n.output, r, table, &mut *reals, &mut *imaginaries);
         h = mixed_outputs(h, p);
         if q.asked == 2 {
             print_line(p.count as u64, 16);
         }
-        let next_decimator = n.decimator;
-        let next_resampler = p.resampler;
-        d = next_decimator;
-        r = next_resampler;
-        left -= 1;
+        d = n.decimator;
+        r = p.resampler;
     }
     mixed_state(h, r, d)
 }
@@ -233,12 +230,9 @@ fn answered() -> bool {
 }
 
 fn main() {
-    let mut left: u64 = 1000000;
-    while left > 0 {
-        if answered() {
-            left -= 1;
-        } else {
-            left = 0;
+    for _ in 0..1000000 {
+        if !answered() {
+            break;
         }
     }
 }

@@ -41,12 +41,9 @@ fn answered() -> bool {
 }
 
 fn main() {
-    let mut left: u64 = 1000000;
-    while left > 0 {
-        if answered() {
-            left -= 1;
-        } else {
-            left = 0;
+    for _ in 0..1000000 {
+        if !answered() {
+            break;
         }
     }
 }

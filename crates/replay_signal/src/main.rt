@@ -94,21 +94,17 @@ fn main() {
     let mut imaginary = [0.0; POINTS];
     let mut place = signal::fresh();
     let mut record = [0u8; 24];
-    let mut left: u64 = 1000000;
-    while left > 0 {
-        let got = io::read_full(0, &mut record);
-        if got < 24 {
-            left = 0;
-        } else {
-            place = played(
-                place,
-                word(&record, 0),
-                word(&record, 8),
-                word(&record, 16),
-                &mut real,
-                &mut imaginary,
-            );
-            left -= 1;
+    for _ in 0..1000000 {
+        if io::read_full(0, &mut record) < 24 {
+            break;
         }
+        place = played(
+            place,
+            word(&record, 0),
+            word(&record, 8),
+            word(&record, 16),
+            &mut real,
+            &mut imaginary,
+        );
     }
 }

@@ -13,7 +13,7 @@ use carrier::{CarrierPlace, Loop};
 use chain::ChainPlace;
 use clock::ClockPlace;
 use complex::Complex32;
-use decimator::{Combs, Decimator, Delays, Integrators, Sums};
+use decimator::{Decimator, Parts, Stages};
 use front::FrontPlace;
 use numbers::bits::{float, float32, pattern, pattern32};
 use oscillator::Oscillator;
@@ -133,23 +133,22 @@ fn oscillator_at(words: &[u64; WORDS]) -> Oscillator {
     }
 }
 
-fn sums_at(words: &[u64; WORDS], at: usize) -> Sums
+fn stages_at(words: &[u64; WORDS], at: usize) -> Stages
     requires { at + 2 < 18262 }
 {
-    Sums {
+    Stages {
         first: words[at],
         second: words[at + 1],
         third: words[at + 2],
     }
 }
 
-fn delays_at(words: &[u64; WORDS], at: usize) -> Delays
-    requires { at + 2 < 18262 }
+fn parts_at(words: &[u64; WORDS], at: usize) -> Parts
+    requires { at + 5 < 18262 }
 {
-    Delays {
-        first: words[at],
-        second: words[at + 1],
-        third: words[at + 2],
+    Parts {
+        real: stages_at(words, at),
+        imaginary: stages_at(words, at + 3),
     }
 }
 
@@ -157,14 +156,8 @@ fn decimator_at(words: &[u64; WORDS]) -> Decimator {
     Decimator {
         decimation: place_at(words, 7),
         counter: place_at(words, 8),
-        integrators: Integrators {
-            real: sums_at(words, 9),
-            imaginary: sums_at(words, 12),
-        },
-        combs: Combs {
-            real: delays_at(words, 15),
-            imaginary: delays_at(words, 18),
-        },
+        integrators: parts_at(words, 9),
+        combs: parts_at(words, 15),
     }
 }
 

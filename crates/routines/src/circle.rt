@@ -57,8 +57,8 @@ struct Remainder {
 
 // The quarter turns of an angle of 0 to 64, to the nearest.
 fn turns(a: f64) -> u64
-    requires a_value { sign_of a ≡ false }
-    requires a_value_2 { le a Circle.farthest ≡ true }
+    requires not_negative { sign_of a ≡ false }
+    requires in_reach { le a Circle.farthest ≡ true }
     ensures { result ≡ Circle.turns_of a }
 {
     std::num::truncating_f64_to_u64(TWO_OVER_PI * a + 0.5)
@@ -66,8 +66,8 @@ fn turns(a: f64) -> u64
 
 // What each difference rounds off is taken on into the next.
 fn reduced(a: f64) -> Remainder
-    requires a_value { sign_of a ≡ false }
-    requires a_value_2 { le a Circle.farthest ≡ true }
+    requires not_negative { sign_of a ≡ false }
+    requires in_reach { le a Circle.farthest ≡ true }
     ensures { result ≡ Circle.reduced_of a }
 {
     let n = turns(a);

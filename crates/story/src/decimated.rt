@@ -3,7 +3,7 @@ ghost use Rattle.std.specs.Prelude.{◌<◌};
 
 use super::kept::{is_zero, plus};
 use complex::Complex32;
-use decimator::{Decimator, Output};
+use decimator::Decimator;
 use numbers::bits::pattern32;
 
 // How many decimated values came, and how many of them are unlike.
@@ -13,36 +13,23 @@ pub struct Compared {
     pub unlike: u64,
 }
 
-fn is_value(o: Output) -> bool {
-    match o {
-        Output::Nothing => false,
-        Output::Value(_) => true,
-    }
-}
-
 // A value that is not 0.
-fn is_heard(o: Output) -> bool {
+fn is_heard(o: Option<Complex32>) -> bool {
     match o {
-        Output::Nothing => false,
-        Output::Value(v) => !is_zero(v.real, v.imaginary),
+        None => false,
+        Some(v) => !is_zero(v.real, v.imaginary),
     }
 }
 
-// Whether an output is this value, bit for bit.
-fn is_this(o: Output, v: Complex32) -> bool {
-    match o {
-        Output::Nothing => false,
-        Output::Value(w) => {
-            pattern32(v.real) == pattern32(w.real)
-                && pattern32(v.imaginary) == pattern32(w.imaginary)
+// Whether one has a value and the other has none, or another one in its bits.
+fn is_unlike(a: Option<Complex32>, b: Option<Complex32>) -> bool {
+    match (a, b) {
+        (Some(v), Some(w)) => {
+            pattern32(v.real) != pattern32(w.real)
+                || pattern32(v.imaginary) != pattern32(w.imaginary)
         }
-    }
-}
-
-fn is_unlike(a: Output, b: Output) -> bool {
-    match a {
-        Output::Nothing => is_value(b),
-        Output::Value(v) => !is_this(b, v),
+        (None, None) => false,
+        _ => true,
     }
 }
 
@@ -60,10 +47,8 @@ fn last_of_zeros(first: Decimator) -> u64
     while n < 2048 {
         n += 1;
         let s = decimator::stepped(d, complex::zero());
-        let output = s.output;
-        last = later(last, n, is_heard(output));
-        let after = s.decimator;
-        d = after;
+        last = later(last, n, is_heard(s.output));
+        d = s.decimator;
     }
     last
 }
@@ -95,14 +80,10 @@ fn beside(one: Decimator, other: Decimator, samples: &[f32]) -> Compared
         i += 1;
         let s = decimator::stepped(a, z);
         let t = decimator::stepped(b, z);
-        let first = s.output;
-        let second = t.output;
-        made = plus(made, is_value(first));
-        unlike = plus(unlike, is_unlike(first, second));
-        let next_a = s.decimator;
-        let next_b = t.decimator;
-        a = next_a;
-        b = next_b;
+        made = plus(made, s.output.is_some());
+        unlike = plus(unlike, is_unlike(s.output, t.output));
+        a = s.decimator;
+        b = t.decimator;
     }
     Compared { made, unlike }
 }

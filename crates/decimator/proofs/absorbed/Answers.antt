@@ -6,4 +6,4 @@ pub returns : goal.returns
 returns c =
     let h : SFits w64 c.args.n.real = search rules in
     let k : SFits w64 c.args.n.imaginary = search rules in
-    rw (c.integrated-imaginary.ensures, c.integrated-real.ensures, to_z-of_z h, to_z-of_z k)
+    rw (c.integrated-2.ensures, c.integrated.ensures, to_z-of_z h, to_z-of_z k)

@@ -2,4 +2,4 @@
 use Rattle.decimator.proofs.decimate.Goals as goal
 
 pub returns : goal.returns
-returns c = rw (c.scaled-value.ensures, c.released-r.ensures)
+returns c = rw (c.scaled.ensures, c.released-r.ensures)

