@@ -482,13 +482,13 @@ fn answer(q: Request)
     let s9 = fill(s8, start.costs, &mut costs);
     let s10 = fill_parents(s9, kind, &mut parents);
     let records = made_records(s10, kind);
-    let held = records.records;
+    let held = records.value;
     let made = made_place(start, records.seed);
-    let detector = made.place;
+    let detector = made.value;
     let previous = made_point(made.seed, kind);
     let s11 = fill(previous.seed, kind, &mut view_real);
     fill(s11, kind, &mut view_imaginary);
-    let point = previous.point;
+    let point = previous.value;
     let view = ViewPlace {
         previous: point,
         head: q.head,

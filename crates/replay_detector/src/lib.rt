@@ -74,20 +74,8 @@ pub struct Start {
 
 // A made value, and the seed after it.
 #[derive(Clone, Copy)]
-pub struct MadeRecords {
-    pub records: Records,
-    pub seed: u64,
-}
-
-#[derive(Clone, Copy)]
-pub struct MadePoint {
-    pub point: Option<Complex32>,
-    pub seed: u64,
-}
-
-#[derive(Clone, Copy)]
-pub struct MadePlace {
-    pub place: DetectorPlace,
+pub struct Made<T> {
+    pub value: T,
     pub seed: u64,
 }
 
@@ -117,15 +105,12 @@ fn parent(kind: u64, seed: u64) -> u8
 
 // Stored parents: zeros, or any states; and the seed after them.
 pub fn fill_parents(s: u64, kind: u64, parents: &mut [u8; PARENTS]) -> u64
-    requires { length parents.old ≡ 2048 }
     ensures { Table parents.new × (length parents.new ≡ 2048) }
 {
     let mut seed = s;
-    let mut i = 0;
-    while i < PARENTS {
+    for i in 0..PARENTS {
         seed = next(seed);
         parents[i] = parent(kind, seed);
-        i += 1;
     }
     seed
 }
@@ -140,11 +125,10 @@ fn made_soft(word: u64, kind: u64, high: f32, low: f32) -> Soft {
     }
 }
 
-pub fn made_records(s: u64, kind: u64) -> MadeRecords {
+pub fn made_records(s: u64, kind: u64) -> Made<Records> {
     let mut records = sequence::step::fresh_records();
     let mut seed = s;
-    let mut i = 0;
-    while i < STEPS {
+    for i in 0..STEPS {
         let word = next(seed);
         let first = next(word);
         let second = next(first);
@@ -153,13 +137,15 @@ pub fn made_records(s: u64, kind: u64) -> MadeRecords {
         };
         records.slots[i] = slot;
         seed = second;
-        i += 1;
     }
-    MadeRecords { records, seed }
+    Made {
+        value: records,
+        seed,
+    }
 }
 
 // Absent one time in three, and where the kind is what stood there.
-pub fn made_point(s: u64, kind: u64) -> MadePoint {
+pub fn made_point(s: u64, kind: u64) -> Made<Option<Complex32>> {
     let word = next(s);
     let first = next(word);
     let second = next(first);
@@ -174,8 +160,8 @@ pub fn made_point(s: u64, kind: u64) -> MadePoint {
     } else {
         Some(value)
     };
-    MadePoint {
-        point,
+    Made {
+        value: point,
         seed: second,
     }
 }
@@ -190,22 +176,22 @@ fn made_previous(previous: usize) -> Previous
     }
 }
 
-pub fn made_place(start: Start, s: u64) -> MadePlace
-    ensures { (result.place.write < 32) × (result.place.filled ≤ 32) × Earlier result.place.previous }
+pub fn made_place(start: Start, s: u64) -> Made<DetectorPlace>
+    ensures { (result.value.write < 32) × (result.value.filled ≤ 32) × Earlier result.value.previous }
 {
     let kind = start.floats;
-    let made = made_point(s, kind);
-    let combined = made.point;
-    let seed = next(made.seed);
-    let previous = made_previous(start.previous);
-    let place = DetectorPlace {
-        write: start.write % 32,
-        filled: start.filled % 33,
-        previous,
-        combined,
-        noise: part(kind, seed, 0.1),
-    };
-    MadePlace { place, seed }
+    let combined = made_point(s, kind);
+    let seed = next(combined.seed);
+    Made {
+        value: DetectorPlace {
+            write: start.write % 32,
+            filled: start.filled % 33,
+            previous: made_previous(start.previous),
+            combined: combined.value,
+            noise: part(kind, seed, 0.1),
+        },
+        seed,
+    }
 }
 
 // The record of the step stored at `write`.
@@ -234,11 +220,9 @@ fn shown_previous(previous: Previous) -> u64 {
 }
 
 pub fn mixed_place(h: u64, d: DetectorPlace) -> u64 {
-    let previous = d.previous;
-    let combined = d.combined;
     let a = mixed(mixed(h, d.write as u64), d.filled as u64);
-    let b = mixed(a, shown_previous(previous));
-    mixed_float32(mixed_point(b, combined), d.noise)
+    let b = mixed(a, shown_previous(d.previous));
+    mixed_float32(mixed_point(b, d.combined), d.noise)
 }
 
 fn mixed_soft(h: u64, soft: Soft) -> u64 {
@@ -252,15 +236,10 @@ fn mixed_soft(h: u64, soft: Soft) -> u64 {
 }
 
 pub fn mixed_records(h: u64, records: Records) -> u64 {
-    let mut d = h;
-    let mut i = 0;
-    while i < STEPS {
-        let slot = records.slots[i];
-        let soft = slot.soft;
-        d = mixed_soft(d, soft);
-        i += 1;
-    }
-    d
+    records
+        .slots
+        .iter()
+        .fold(h, |d, slot| mixed_soft(d, slot.soft))
 }
 
 // A dibit with its reliabilities as one number, or 0.
@@ -275,10 +254,11 @@ pub fn shown(answer: Answer) -> u64 {
 
 // The digest of a step's answer.
 pub fn told(d: Detected) -> u64 {
-    let answer = d.answer;
-    let equalized = d.equalized;
-    let h = mixed(0, shown(answer));
-    mixed_point(mixed_float32(mixed_float32(h, d.phase), d.power), equalized)
+    let h = mixed(0, shown(d.answer));
+    mixed_point(
+        mixed_float32(mixed_float32(h, d.phase), d.power),
+        d.equalized,
+    )
 }
 
 // The digest with what the detector stores of its steps.

@@ -102,8 +102,8 @@ fn answer(q: Request) {
     let place = made_place(start, records.seed);
     run(
         q,
-        place.place,
-        records.records,
+        place.value,
+        records.value,
         &mut real,
         &mut imaginary,
         &mut drift,

@@ -53,7 +53,6 @@ fn fill_memory(seed: u64, start: Start, memory: &mut [f32]) -> u64
 // A fresh second stream filled from the seed: its memory, then parents, records, combined observation and
 // noise.
 pub fn made_second(m: Making, memory: &mut [f32; MEMORY], ancestors: &mut [u8; PARENTS]) -> Second
-    requires { length ancestors.old ≡ 2048 }
     ensures ranged { Ranged (second_of result memory.new ancestors.new) }
     ensures whole { length ancestors.new ≡ 2048 }
 {
@@ -62,32 +61,32 @@ pub fn made_second(m: Making, memory: &mut [f32; MEMORY], ancestors: &mut [u8; P
     *memory = second::fresh_memory();
     let s1 = fill_memory(m.seed, start, &mut *memory);
     let s2 = fill_parents(s1, kind, &mut *ancestors);
-    let held = made_records(s2, kind);
-    let records = held.records;
-    let made = made_place(start, held.seed);
-    let detector = made.place;
-    let turn = turned(m);
+    let records = made_records(s2, kind);
+    let detector = made_place(start, records.seed);
     Second {
         enabled: m.flags % 256 == 1,
-        carrier: CarrierPlace { turn, detector },
-        records,
+        carrier: CarrierPlace {
+            turn: turned(m),
+            detector: detector.value,
+        },
+        records: records.value,
     }
 }
 
 pub fn mixed_loop(h: u64, l: Loop) -> u64 {
     let turn = mixed_float(mixed_float(h, l.phase), l.frequency);
     mixed_float(
-        mixed_flag(mixed(turn, l.alternation as u64), l.locked),
+        mixed_flag(mixed(turn, u64::from(l.alternation)), l.locked),
         l.error,
     )
 }
 
 // The digest with the whole state of a second stream.
 pub fn mixed_second(h: u64, s: Second, memory: &[f32; MEMORY], ancestors: &[u8; PARENTS]) -> u64 {
-    let carrier = s.carrier;
-    let turn = carrier.turn;
-    let detector = carrier.detector;
-    let records = s.records;
-    let place = mixed_place(mixed_loop(mixed_flag(h, s.enabled), turn), detector);
-    mixed_records(mixed_bytes(mixed_plane(place, memory), ancestors), records)
+    let turn = mixed_loop(mixed_flag(h, s.enabled), s.carrier.turn);
+    let place = mixed_place(turn, s.carrier.detector);
+    mixed_records(
+        mixed_bytes(mixed_plane(place, memory), ancestors),
+        s.records,
+    )
 }

@@ -5,11 +5,11 @@ use Rattle.replay_second.proofs.made_second.Goals as goal
 
 pub returns : goal.returns
 returns c =
-    let place_is = c.made_place-made.ensures in
+    let place_is = c.made_place-detector.ensures in
     let parents_are = c.fill_parents-s2.ensures in
     let whole = c.fill_memory-s1.ensures in record {
       ranged = record {
-        alternation = c.turned-turn.ensures;
+        alternation = c.turned.ensures;
         detector = record {
           skeleton = record {
             place = record { write = place_is.0; filled = place_is.1; earlier = place_is.2 };

@@ -1,9 +1,0 @@
--- `replay_detector::made_records` is safe and ends: 32 turns.
-use Rattle.std.proofs.Common.{◌-◌, ◌≤◌}
-use Rattle.replay_detector.proofs.made_records.Given as goal
-
-abbrev pub invariant-loop-i : goal.invariant-loop-i
-invariant-loop-i l = l.i ≤ 32
-
-abbrev pub decreases-loop-i : goal.decreases-loop-i
-decreases-loop-i l = 32 - l.i
