@@ -1,5 +1,5 @@
 // The step of all 64 states, sixteen at a time.
-ghost use Rattle.std.specs.Prelude.{◌≡◌, ◌<◌, length};
+ghost use Rattle.std.specs.Prelude.{◌≡◌, ◌<◌};
 ghost use Rattle.complex.specs.Lends.{Reads};
 ghost use Rattle.channels.specs.Channels.{Parents};
 ghost use Rattle.least_squares.specs.Lanes.{in_group, inverse_of, inverses_of};
@@ -31,7 +31,8 @@ fn learn(
     drift: &mut [f32; DRIFTS],
     next: &mut [f32; ALL],
 )
-    requires { (g < 4) × Parents parents.now × (length taps.old ≡ 512) × (length drift.old ≡ 512) × (length next.old ≡ 8192) }
+    requires g_of_four { g < 4 }
+    requires states { Parents parents.now }
     ensures { Reads prediction_real prediction_imaginary (λ predictions.
         (taps.new ≡ in_fours g (λ s. (learnt_in w.now taps.old drift.old parents.now predictions input s).taps) taps.old)
         × (drift.new ≡ in_fours g (λ s. (learnt_in w.now taps.old drift.old parents.now predictions input s).drift) drift.old)
@@ -61,15 +62,14 @@ fn learn_all(
     drift: &mut [f32; DRIFTS],
     next: &mut [f32; ALL],
 )
-    requires { Parents parents.now × (length taps.old ≡ 512) × (length drift.old ≡ 512) × (length next.old ≡ 8192) }
+    requires { Parents parents.now }
     ensures { Reads prediction_real prediction_imaginary (λ predictions.
         (taps.new ≡ drifts_of (λ s. (learnt_from taps.old drift.old inverse.now parents.now predictions input s).taps))
         × (drift.new ≡ drifts_of (λ s. (learnt_from taps.old drift.old inverse.now parents.now predictions input s).drift))
         × (next.new ≡ inverses_of (λ s. (learnt_from taps.old drift.old inverse.now parents.now predictions input s).inverse))) }
 {
     let mut w = [0.0; INVERSES];
-    let mut g = 0;
-    while g < 4 {
+    for g in 0..4 {
         take_foretold(inverse, parents, g, &mut w);
         learn(
             parents,
@@ -82,19 +82,16 @@ fn learn_all(
             drift,
             next,
         );
-        g += 1;
     }
 }
 
 // All inverses, where it is not: each state's is its parent's.
 fn inherit_all(inverse: &[f32; ALL], parents: &[u8; STATES], next: &mut [f32; ALL])
-    requires { Parents parents.now × (length next.old ≡ 8192) }
+    requires { Parents parents.now }
     ensures { next.new ≡ inverses_of (λ s. inverse_of inverse.now (parent_of parents.now s)) }
 {
-    let mut g = 0;
-    while g < 4 {
+    for g in 0..4 {
         inherit_inverses(inverse, parents, g, next);
-        g += 1;
     }
 }
 
@@ -113,7 +110,7 @@ pub fn follow(
     input: Complex32,
     reliable: bool,
 )
-    requires { Parents parents.now × (length channel_real.old ≡ 256) × (length channel_imaginary.old ≡ 256) × (length drift.old ≡ 512) × (length next.old ≡ 8192) }
+    requires { Parents parents.now }
     ensures { Leaves channel_real channel_imaginary drift inverse next (λ before after. Reads prediction_real prediction_imaginary (λ predictions.
         after ≡ followed_of before parents.now predictions input reliable)) }
 {

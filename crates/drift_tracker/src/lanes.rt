@@ -1,5 +1,5 @@
 // Taps and drifts of all states: put in one array and apart again, taken from the parents, and moved.
-ghost use Rattle.std.specs.Prelude.{◌≡◌, ◌<◌, ◌≤◌, length};
+ghost use Rattle.std.specs.Prelude.{◌≡◌, ◌+◌, ◌/◌, ◌<◌, ◌≤◌};
 ghost use Rattle.complex.specs.Lends.{Reads, Leaves};
 ghost use Rattle.complex.specs.Planes.{point_at};
 ghost use Rattle.channels.specs.Channels.{Parents};
@@ -24,82 +24,57 @@ fn point(real: &[f32; CHANNELS], imaginary: &[f32; CHANNELS], k: usize) -> Compl
     }
 }
 
-fn number(all: &[f32; DRIFTS], k: usize) -> Complex32
-    requires { k < 256 }
-    ensures { result ≡ pair_at 256 all.now k }
+// The number k of an array that holds its numbers' imaginary parts half its length further.
+fn number<const N: usize>(all: &[f32; N], k: usize) -> Complex32
+    requires { k + N / 2 < N }
+    ensures { result ≡ pair_at (N / 2) all.now k }
 {
     Complex32 {
         real: all[k],
-        imaginary: all[k + 256],
-    }
-}
-
-fn gain_number(gain: &[f32; EIGHTS], k: usize) -> Complex32
-    requires { k < 128 }
-    ensures { result ≡ pair_at 128 gain.now k }
-{
-    Complex32 {
-        real: gain[k],
-        imaginary: gain[k + 128],
-    }
-}
-
-fn error_number(error: &[f32; PAIRS], k: usize) -> Complex32
-    requires { k < 16 }
-    ensures { result ≡ pair_at 16 error.now k }
-{
-    Complex32 {
-        real: error[k],
-        imaginary: error[k + 16],
+        imaginary: all[k + N / 2],
     }
 }
 
 // Two planes in one array.
 pub fn join(real: &[f32; CHANNELS], imaginary: &[f32; CHANNELS], all: &mut [f32; DRIFTS])
-    requires { length all.old ≡ 512 }
     ensures { Reads real imaginary (λ c. all.new ≡ joined_of c) }
 {
-    let mut k = 0;
-    while k < CHANNELS {
+    for k in 0..CHANNELS {
         let z = point(real, imaginary, k);
         all[k] = z.real;
         all[k + 256] = z.imaginary;
-        k += 1;
     }
 }
 
 // And apart again.
 pub fn split(all: &[f32; DRIFTS], real: &mut [f32; CHANNELS], imaginary: &mut [f32; CHANNELS])
-    requires { (length real.old ≡ 256) × (length imaginary.old ≡ 256) }
     ensures { Leaves real imaginary (λ before after. after ≡ split_of all.now) }
 {
-    let mut k = 0;
-    while k < CHANNELS {
+    for k in 0..CHANNELS {
         real[k] = all[k];
         imaginary[k] = all[k + 256];
-        k += 1;
     }
 }
 
 pub fn parent(parents: &[u8; STATES], s: usize) -> usize
-    requires { (s < 64) × Parents parents.now }
-    ensures { (result ≡ parent_of parents.now s) × (result < 64) }
+    requires s_of_64 { s < 64 }
+    requires states { Parents parents.now }
+    ensures same { result ≡ parent_of parents.now s }
+    ensures near { result < 64 }
 {
     parents[s] as usize
 }
 
 // Each state's four numbers are its parent's.
 pub fn inherit(all: &[f32; DRIFTS], parents: &[u8; STATES], new: &mut [f32; DRIFTS])
-    requires { Parents parents.now × (length new.old ≡ 512) }
+    requires { Parents parents.now }
     ensures { new.new ≡ drifts_of (λ s. drift_at all.now (parent_of parents.now s)) }
 {
-    let mut k = 0;
-    while k < CHANNELS {
+    for k in 0..CHANNELS {
         let p = parent(parents, k % 64);
         let z = number(all, 64 * (k / 64) + p);
         new[k] = z.real;
         new[k + 256] = z.imaginary;
-        k += 1;
     }
 }
 
@@ -113,24 +88,21 @@ pub fn pull(
     d: &[f32; LANES],
     g: usize,
 )
-    requires { (from ≤ 4) × (g < 4) × (length all.old ≡ 512) }
+    requires from_of_row { from ≤ 4 }
+    requires g_of_four { g < 4 }
     ensures { all.new ≡ in_fours g (moved_from all.old gain.now from error.now d.now) all.old }
 {
-    let mut t = 0;
-    while t < 4 {
-        let mut l = 0;
-        while l < 16 {
+    for t in 0..4 {
+        for l in 0..16 {
             let tap = number(all, 64 * t + 16 * g + l);
             let z = moved(
                 tap,
-                gain_number(gain, 16 * (t + from) + l),
-                error_number(error, l),
+                number(gain, 16 * (t + from) + l),
+                number(error, l),
                 is_usable(d[l]),
             );
             all[64 * t + 16 * g + l] = z.real;
             all[64 * t + 16 * g + l + 256] = z.imaginary;
-            l += 1;
         }
-        t += 1;
     }
 }

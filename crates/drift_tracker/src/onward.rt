@@ -1,5 +1,5 @@
 // The taps one symbol on.
-ghost use Rattle.std.specs.Prelude.{◌≡◌, length};
+ghost use Rattle.std.specs.Prelude.{◌≡◌};
 ghost use Rattle.complex.specs.Lends.{Leaves};
 ghost use Rattle.drift_tracker.specs.Drift.{advanced_of};
 
@@ -8,13 +8,10 @@ use channels::CHANNELS;
 
 // Each tap goes on by its drift.
 pub fn advance(real: &mut [f32; CHANNELS], imaginary: &mut [f32; CHANNELS], drift: &[f32; DRIFTS])
-    requires { (length real.old ≡ 256) × (length imaginary.old ≡ 256) }
     ensures { Leaves real imaginary (λ before after. after ≡ advanced_of before drift.now) }
 {
-    let mut k = 0;
-    while k < CHANNELS {
-        real[k] = real[k] + drift[k];
-        imaginary[k] = imaginary[k] + drift[k + 256];
-        k += 1;
+    for k in 0..CHANNELS {
+        real[k] += drift[k];
+        imaginary[k] += drift[k + 256];
     }
 }

@@ -1,5 +1,5 @@
 // What each lane's step is made with: its four symbols, and the error of its prediction.
-ghost use Rattle.std.specs.Prelude.{◌≡◌, ◌+◌, ◌*◌, ◌<◌, length};
+ghost use Rattle.std.specs.Prelude.{◌≡◌, ◌+◌, ◌*◌, ◌<◌};
 ghost use Rattle.complex.specs.Lends.{Reads};
 ghost use Rattle.complex.specs.Complex.{difference_of};
 ghost use Rattle.complex.specs.Planes.{point_at};
@@ -16,7 +16,9 @@ use least_squares::{FOURS, PAIRS};
 
 // The symbol t of a state and its parent p: the newest is the state's, the others are the parent's.
 fn symbol_of(s: usize, p: usize, t: usize) -> Complex32
-    requires { (s < 64) × (p < 64) × (t < 4) }
+    requires s_of_64 { s < 64 }
+    requires p_of_64 { p < 64 }
+    requires t_of_four { t < 4 }
     ensures { result ≡ number_of (symbols_of s p) t }
 {
     if t == 0 {
@@ -33,20 +35,17 @@ fn symbol_of(s: usize, p: usize, t: usize) -> Complex32
 
 // The symbols of the sixteen states from 16 g on.
 pub fn regress(parents: &[u8; STATES], g: usize, u: &mut [f32; FOURS])
-    requires { (g < 4) × Parents parents.now × (length u.old ≡ 128) }
+    requires g_of_four { g < 4 }
+    requires states { Parents parents.now }
     ensures { u.new ≡ lanes_of 64 (λ l. symbols_of (16 * g + l) (parent_of parents.now (16 * g + l))) }
 {
-    let mut t = 0;
-    while t < 4 {
-        let mut l = 0;
-        while l < 16 {
+    for t in 0..4 {
+        for l in 0..16 {
             let p = parent(parents, 16 * g + l);
             let z = symbol_of(16 * g + l, p, t);
             u[16 * t + l] = z.real;
             u[16 * t + l + 64] = z.imaginary;
-            l += 1;
         }
-        t += 1;
     }
 }
 
@@ -58,12 +57,11 @@ pub fn miss(
     g: usize,
     error: &mut [f32; PAIRS],
 )
-    requires { (g < 4) × (length error.old ≡ 32) }
+    requires { g < 4 }
     ensures { Reads prediction_real prediction_imaginary (λ predictions.
         error.new ≡ pairs_of 16 (λ l. difference_of input (point_at predictions (16 * g + l)))) }
 {
-    let mut l = 0;
-    while l < 16 {
+    for l in 0..16 {
         let prediction = Complex32 {
             real: prediction_real[16 * g + l],
             imaginary: prediction_imaginary[16 * g + l],
@@ -71,6 +69,5 @@ pub fn miss(
         let z = subtracted(input, prediction);
         error[l] = z.real;
         error[l + 16] = z.imaginary;
-        l += 1;
     }
 }

@@ -1,5 +1,5 @@
 // The parents' inverses as they are, for an input that is not reliable.
-ghost use Rattle.std.specs.Prelude.{◌≡◌, ◌+◌, ◌*◌, ◌<◌, length, get_or};
+ghost use Rattle.std.specs.Prelude.{◌≡◌, ◌+◌, ◌*◌, ◌<◌, get_or};
 ghost use Rattle.channels.specs.Channels.{Parents};
 ghost use Rattle.least_squares.specs.Lanes.{inverse_of, in_group};
 ghost use Rattle.inheriting.specs.Inheriting.{numbers_put, fours_put};
@@ -52,11 +52,9 @@ fn copy_four(
     requires { (a + 252 < 4096) × (b + 252 < 4096) × (c + 252 < 4096) × (d + 252 < 4096) × (to + 255 < 4096) }
     ensures { next.new ≡ fours_put old.now a b c d to 64 next.old }
 {
-    let mut e = 0;
-    while e < 64 {
+    for e in 0..64 {
         let k = 4 * e;
         copy_number(old, a + k, b + k, c + k, d + k, to + k, next);
-        e += 1;
     }
 }
 
@@ -82,17 +80,16 @@ fn copy_family(
 
 // The inverses of the sixteen states from 16 g on are their parents'. The others stay.
 pub fn inherit_inverses(old: &[f32; ALL], parents: &[u8; STATES], g: usize, next: &mut [f32; ALL])
-    requires { (g < 4) × Parents parents.now × (length next.old ≡ 8192) }
+    requires g_of_four { g < 4 }
+    requires states { Parents parents.now }
     ensures { next.new ≡ in_group g (λ s. inverse_of old.now (get_or parents.now s 0)) next.old }
 {
-    let mut m = 0;
-    while m < 4 {
+    for m in 0..4 {
         let s = 16 * g + 4 * m;
         let a = place_of(parents[s] as usize);
         let b = place_of(parents[s + 1] as usize);
         let c = place_of(parents[s + 2] as usize);
         let d = place_of(parents[s + 3] as usize);
         copy_family(old, a, b, c, d, 1024 * g + 256 * m, next);
-        m += 1;
     }
 }

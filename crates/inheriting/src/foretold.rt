@@ -1,5 +1,5 @@
 // The parents' inverses one symbol on, into a room of lanes, for an input that is reliable.
-ghost use Rattle.std.specs.Prelude.{◌≡◌, ◌+◌, ◌*◌, ◌<◌, length, get_or};
+ghost use Rattle.std.specs.Prelude.{◌≡◌, ◌+◌, ◌*◌, ◌<◌, get_or};
 ghost use Rattle.channels.specs.Channels.{Parents};
 ghost use Rattle.least_squares.specs.Lanes.{lanes_of, inverse_of};
 ghost use Rattle.least_squares.specs.LeastSquares.{foretold_of};
@@ -142,12 +142,10 @@ fn gather_four(
     requires { (a + 252 < 4096) × (b + 252 < 4096) × (c + 252 < 4096) × (d + 252 < 4096) × (to < 13) }
     ensures { room.new ≡ foretold_put old.now a b c d to 16 room.old }
 {
-    let mut x = 0;
-    while x < 16 {
+    for x in 0..16 {
         let k = 32 * (x / 4) + 4 * (x % 4);
         let at = 128 * (x / 4) + 16 * (x % 4);
         foretell_four(old, a + k, b + k, c + k, d + k, to + at, room);
-        x += 1;
     }
 }
 
@@ -156,12 +154,10 @@ fn gather_one(old: &[f32; ALL], a: usize, to: usize, room: &mut [f32; INVERSES])
     requires { (a + 252 < 4096) × (to < 13) }
     ensures { room.new ≡ foretold_put old.now a a a a to 16 room.old }
 {
-    let mut x = 0;
-    while x < 16 {
+    for x in 0..16 {
         let k = 32 * (x / 4) + 4 * (x % 4);
         let at = 128 * (x / 4) + 16 * (x % 4);
         foretell_one(old, a + k, to + at, room);
-        x += 1;
     }
 }
 
@@ -187,17 +183,16 @@ fn gather_family(
 
 // The inverses of the parents of the sixteen states from 16 g on, one symbol on, one to a lane.
 pub fn take_foretold(old: &[f32; ALL], parents: &[u8; STATES], g: usize, room: &mut [f32; INVERSES])
-    requires { (g < 4) × Parents parents.now × (length room.old ≡ 2048) }
+    requires g_of_four { g < 4 }
+    requires states { Parents parents.now }
     ensures { room.new ≡ lanes_of 1024 (λ l. foretold_of (inverse_of old.now (get_or parents.now (16 * g + l) 0))) }
 {
-    let mut m = 0;
-    while m < 4 {
+    for m in 0..4 {
         let s = 16 * g + 4 * m;
         let a = place_of(parents[s] as usize);
         let b = place_of(parents[s + 1] as usize);
         let c = place_of(parents[s + 2] as usize);
         let d = place_of(parents[s + 3] as usize);
         gather_family(old, a, b, c, d, 4 * m, room);
-        m += 1;
     }
 }

@@ -1,5 +1,5 @@
 // The inverses of the sixteen states of a group after a step.
-ghost use Rattle.std.specs.Prelude.{◌≡◌, ◌+◌, ◌%◌, ◌<◌, length};
+ghost use Rattle.std.specs.Prelude.{◌≡◌, ◌+◌, ◌%◌, ◌<◌};
 ghost use Rattle.least_squares.specs.Lanes.{state_at, in_group};
 ghost use Rattle.settling.specs.Settling.{inverse_after};
 ghost use Rattle.settling.specs.Layout.{trace_at, turned, prior_number, mended_of};
@@ -25,20 +25,20 @@ fn trace(p: &[f32; ALL], base: usize) -> f32
 
 // One inverse begins anew.
 fn renew(base: usize, next: &mut [f32; ALL])
-    requires { (base % 256 < 4) × (base < 4096) × (length next.old ≡ 8192) }
+    requires base_of_lane { base % 256 < 4 }
+    requires base_of_half { base < 4096 }
     ensures { next.new ≡ turned state_at (state_at base) prior_number next.old }
 {
-    let mut e = 0;
-    while e < 64 {
+    for e in 0..64 {
         next[base + 4 * e] = prior_of(e);
         next[base + 4 * e + 4096] = 0.0;
-        e += 1;
     }
 }
 
 // Where the denominator was of no use or the trace has run away: rare, so a pass of its own.
 fn mend(den: f32, base: usize, next: &mut [f32; ALL])
-    requires { (base % 256 < 4) × (base < 4096) × (length next.old ≡ 8192) }
+    requires base_of_lane { base % 256 < 4 }
+    requires base_of_half { base < 4096 }
     ensures { next.new ≡ mended_of den base next.old }
 {
     if is_usable(den) & is_bounded(trace(next, base)) {} else {
@@ -56,17 +56,13 @@ pub fn settle_group(
     g: usize,
     next: &mut [f32; ALL],
 )
-    requires { (g < 4) × (length next.old ≡ 8192) }
+    requires { g < 4 }
     ensures { next.new ≡ in_group g (inverse_after w.now gain.now row.now den.now) next.old }
 {
-    let mut m = 0;
-    while m < 4 {
+    for m in 0..4 {
         settle_quad(w, gain, row, 4 * m, 1024 * g + 256 * m, next);
-        m += 1;
     }
-    let mut l = 0;
-    while l < 16 {
-        mend(den[l], 1024 * g + 256 * (l / 4) + l % 4, next);
-        l += 1;
+    for (l, &d) in den.iter().enumerate() {
+        mend(d, 1024 * g + 256 * (l / 4) + l % 4, next);
     }
 }

@@ -1,6 +1,6 @@
 // The inverses of four lanes after a step: each number above the diagonal and its conjugate across it, and
 // the diagonal, where both are one.
-ghost use Rattle.std.specs.Prelude.{◌≡◌, ◌+◌, ◌*◌, ◌/◌, ◌%◌, ◌<◌, ◌≤◌, length};
+ghost use Rattle.std.specs.Prelude.{◌≡◌, ◌+◌, ◌*◌, ◌/◌, ◌%◌, ◌<◌, ◌≤◌};
 ghost use Rattle.settling.specs.Layout.{four_of, turned, pair_turn, quad_at, settled_number};
 
 use least_squares::entry::{diagonal_imaginary, diagonal_real, settled_imaginary, settled_real};
@@ -44,7 +44,11 @@ fn settle_pair(
     base: usize,
     next: &mut [f32; ALL],
 )
-    requires { (i < j) × (j < 8) × (from ≡ 4 * (base / 256 % 4)) × (base % 256 ≡ 0) × (base + 256 ≤ 4096) × (length next.old ≡ 8192) }
+    requires above { i < j }
+    requires j_of_eight { j < 8 }
+    requires from_of_quad { from ≡ 4 * (base / 256 % 4) }
+    requires base_of_quad { base % 256 ≡ 0 }
+    requires base_fits { base + 256 ≤ 4096 }
     ensures { next.new ≡ turned (pair_turn (base / 256)) (8 * i + j) (settled_number w.now gain.now row.now) next.old }
 {
     let a = 128 * i + 16 * j + from;
@@ -75,7 +79,10 @@ fn settle_diagonal(
     base: usize,
     next: &mut [f32; ALL],
 )
-    requires { (i < 8) × (from ≡ 4 * (base / 256 % 4)) × (base % 256 ≡ 0) × (base + 256 ≤ 4096) × (length next.old ≡ 8192) }
+    requires i_of_eight { i < 8 }
+    requires from_of_quad { from ≡ 4 * (base / 256 % 4) }
+    requires base_of_quad { base % 256 ≡ 0 }
+    requires base_fits { base + 256 ≤ 4096 }
     ensures { next.new ≡ turned (pair_turn (base / 256)) (8 * i + i) (settled_number w.now gain.now row.now) next.old }
 {
     let a = 144 * i + from;
@@ -102,17 +109,15 @@ pub fn settle_quad(
     base: usize,
     next: &mut [f32; ALL],
 )
-    requires { (from ≡ 4 * (base / 256 % 4)) × (base % 256 ≡ 0) × (base + 256 ≤ 4096) × (length next.old ≡ 8192) }
+    requires from_of_quad { from ≡ 4 * (base / 256 % 4) }
+    requires base_of_quad { base % 256 ≡ 0 }
+    requires base_fits { base + 256 ≤ 4096 }
     ensures { next.new ≡ turned quad_at (base / 256) (settled_number w.now gain.now row.now) next.old }
 {
-    let mut i = 0;
-    while i < 8 {
+    for i in 0..8 {
         settle_diagonal(w, gain, row, i, from, base, next);
-        let mut j = i + 1;
-        while j < 8 {
+        for j in i + 1..8 {
             settle_pair(w, gain, row, i, j, from, base, next);
-            j += 1;
         }
-        i += 1;
     }
 }

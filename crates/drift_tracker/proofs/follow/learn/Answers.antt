@@ -2,11 +2,6 @@
 use Rattle.drift_tracker.specs.Laws.{taps_learnt, drift_learnt, inverse_learnt}
 use Rattle.drift_tracker.proofs.follow.learn.Goals as goal
 
-pub settle_group-requires : goal.settle_group-requires
-settle_group-requires c =
-    let given = c.requires in
-    (given.0, given.4)
-
 pub returns : goal.returns
 returns c =
     let symbols = c.regress.ensures in

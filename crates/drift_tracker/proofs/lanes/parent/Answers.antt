@@ -5,8 +5,8 @@ use Rattle.drift_tracker.specs.Drift.{parent_of}
 use Rattle.drift_tracker.proofs.lanes.parent.Goals as goal
 
 pub overflow_cast-result : goal.overflow_cast-result
-overflow_cast-result c = omega (arith, c.requires.1.below _ c.requires.0)
+overflow_cast-result c = omega (arith, c.requires.states.below _ c.requires.s_of_64)
 
 pub returns : goal.returns
 unfolding parent_of
-returns c = (refl, c.requires.1.below _ c.requires.0)
+returns c = record { same = refl; near = c.requires.states.below _ c.requires.s_of_64 }

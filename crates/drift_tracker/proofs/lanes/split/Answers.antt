@@ -6,17 +6,17 @@ use borrow.Author.Rules.{rules}
 use Rattle.drift_tracker.proofs.lanes.split.Goals as goal
 
 pub loop-k-init : goal.loop-k-init
-loop-k-init c = (search rules, fill_start _ _, fill_start _ _)
+loop-k-init c = (fill_start _ _, fill_start _ _)
 
 pub loop-k-preserved : goal.loop-k-preserved
 loop-k-preserved c =
     let apart = c.loop-k.invariant in
-    (search rules, fill_step _ _ _ _ _ refl apart.1, fill_step _ _ _ _ _ refl apart.2)
+    (fill_step _ _ _ _ _ refl apart.0, fill_step _ _ _ _ _ refl apart.1)
 
 pub returns : goal.returns
 returns c =
     let apart = c.loop-k.invariant in
     λ i. record {
-      real = fill_end _ _ 256 _ _ nan apart.1 (search rules) (search rules) c.requires.0 i;
-      imaginary = fill_end _ _ 256 _ _ nan apart.2 (search rules) (search rules) c.requires.1 i;
+      real = fill_end _ _ 256 _ _ nan apart.0 (search rules) (search rules) (search rules) i;
+      imaginary = fill_end _ _ 256 _ _ nan apart.1 (search rules) (search rules) (search rules) i;
     }

@@ -5,15 +5,14 @@ use borrow.Author.Rules.{rules}
 use Rattle.drift_tracker.proofs.onward.advance.Goals as goal
 
 pub loop-k-init : goal.loop-k-init
-loop-k-init c = (search rules, onward_start _ _ _, onward_start _ _ _)
+loop-k-init c = (onward_start _ _ _, onward_start _ _ _)
 
 pub loop-k-preserved : goal.loop-k-preserved
 loop-k-preserved c =
     let on = c.loop-k.invariant in
-    (search rules, onward_step _ (λ k. k) _ _ _ on.1, onward_step _ (λ k. k + 256) _ _ _ on.2)
+    (onward_step _ (λ k. k) _ _ _ on.0, onward_step _ (λ k. k + 256) _ _ _ on.1)
 
 pub returns : goal.returns
 returns c =
     let on = c.loop-k.invariant in
-    let given = c.requires in
-    advanced_is _ _ _ _ _ _ on.1 on.2 on.0 (search rules) given.0 given.1
+    advanced_is _ _ _ _ _ _ on.0 on.1 (search rules) (search rules) (search rules) (search rules)

@@ -4,10 +4,10 @@ use borrow.Author.Rules.{rules}
 use Rattle.inheriting.proofs.copied.copy_four.Goals as goal
 
 pub loop-e-init : goal.loop-e-init
-loop-e-init c = (search rules, fours_start _ _ _ _ _ _ _)
+loop-e-init c = fours_start _ _ _ _ _ _ _
 
 pub loop-e-preserved : goal.loop-e-preserved
-loop-e-preserved c = (search rules, fours_step _ _ _ _ _ _ _ _ _ _ c.copy_number.ensures c.loop-e.invariant.1)
+loop-e-preserved c = fours_step _ _ _ _ _ _ _ _ _ _ c.copy_number.ensures c.loop-e.invariant
 
 pub returns : goal.returns
-returns c = fours_end _ _ _ _ _ _ _ _ _ c.loop-e.invariant.1 (search rules) (search rules)
+returns c = fours_end _ _ _ _ _ _ _ _ _ c.loop-e.invariant (search rules) (search rules)

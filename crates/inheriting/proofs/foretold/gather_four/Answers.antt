@@ -4,10 +4,10 @@ use borrow.Author.Rules.{rules}
 use Rattle.inheriting.proofs.foretold.gather_four.Goals as goal
 
 pub loop-x-init : goal.loop-x-init
-loop-x-init c = (search rules, foretold_start _ _ _ _ _ _ _)
+loop-x-init c = foretold_start _ _ _ _ _ _ _
 
 pub loop-x-preserved : goal.loop-x-preserved
-loop-x-preserved c = (search rules, foretold_step _ _ _ _ _ _ _ _ _ _ c.foretell_four.ensures c.loop-x.invariant.1)
+loop-x-preserved c = foretold_step _ _ _ _ _ _ _ _ _ _ c.foretell_four.ensures c.loop-x.invariant
 
 pub returns : goal.returns
-returns c = foretold_end _ _ _ _ _ _ _ _ _ c.loop-x.invariant.1 (search rules) (search rules)
+returns c = foretold_end _ _ _ _ _ _ _ _ _ c.loop-x.invariant (search rules) (search rules)

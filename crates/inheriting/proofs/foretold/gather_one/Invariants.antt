@@ -1,11 +1,7 @@
 -- `gather_one` meets its contract: after x turns the first x numbers of each quarter are laid.
 use mathlib.Core.Path.{◌≡◌}
-use Prim.Native.Nat.{◌-◌, ◌≤◌}
 use Rattle.inheriting.specs.Inheriting.{foretold_put}
 use Rattle.inheriting.proofs.foretold.gather_one.Given as goal
 
 abbrev pub invariant-loop-x : goal.invariant-loop-x
-invariant-loop-x l = (l.x ≤ 16) × (l.room ≡ foretold_put l.old l.a l.a l.a l.a l.to l.x l.initial.room)
-
-abbrev pub decreases-loop-x : goal.decreases-loop-x
-decreases-loop-x l = 16 - l.x
+invariant-loop-x l = l.room ≡ foretold_put l.old l.a l.a l.a l.a l.to l.x l.initial.room
