@@ -87,7 +87,7 @@ module _ (r : Receiver) (table xs : List Float) (lent : Rooms) where
 module _ (r : Receiver) (table xs : List Float) (lent : Rooms) (t : Typed r) (k : Passes r table xs lent) where
   ready : 2 * count_of xs + 4 ≤ length lent.dibits → 4 * count_of xs + 8 ≤ length lent.reliabilities → ReadyBlock r table xs (length lent.dibits) (length lent.reliabilities)
   ready a b = record {
-    fits = fits_from r.total r.front r.chain r.second r.parents r.ancestors k.admitted;
+    fits = fits_from r.total r.front r.chain r.second r.planes.decisions.parents r.ancestors k.admitted;
     table_in = k.table_in;
     total_in = k.total_in;
     numbers = numbers_of xs k.even k.finite;

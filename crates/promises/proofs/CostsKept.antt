@@ -68,35 +68,35 @@ module _ (taps derivatives : List Float) where
   values_keep (z ∷ values) t g = values_keep values (told taps derivatives t z) (step_keeps t.state z _ g)
 
 -- ---- a call, and calls one after the other
-after_keeps : (r : Receiver) (table xs : List Float) → GoodCosts r.costs → GoodCosts (after_of r table xs).costs
+after_keeps : (r : Receiver) (table xs : List Float) → GoodCosts r.planes.decisions.costs → GoodCosts (after_of r table xs).planes.decisions.costs
 unfolding after_of whole_run_of chain_of
 after_keeps r table xs g = values_keep both_tables.taps both_tables.derivatives (values_of r table xs) (start (start_of r (one [] [])).lent.state r.records.slots) g
 
-call_keeps : (r : Receiver) (c : Call) → GoodCosts r.costs → GoodCosts (answered_of r c).receiver.costs
+call_keeps : (r : Receiver) (c : Call) → GoodCosts r.planes.decisions.costs → GoodCosts (answered_of r c).receiver.planes.decisions.costs
 call_keeps r c g = go (eqb (answered_of r c).number 0) refl
   where
-    go : (b : Bool) → eqb (answered_of r c).number 0 ≡ b → GoodCosts (answered_of r c).receiver.costs
+    go : (b : Bool) → eqb (answered_of r c).number 0 ≡ b → GoodCosts (answered_of r c).receiver.planes.decisions.costs
     go true e =
         let is = accepted_is r c.table c.samples c.rooms (eqb-true (answered_of r c).number 0 e) in
-        subst (λ (o : Outcome). GoodCosts o.receiver.costs) (sym is) (after_keeps r c.table c.samples g)
+        subst (λ (o : Outcome). GoodCosts o.receiver.planes.decisions.costs) (sym is) (after_keeps r c.table c.samples g)
     go false e =
         let is = (refused_keeps r c.table c.samples c.rooms (eqb-false (answered_of r c).number 0 e)).0 in
-        subst (λ (q : Receiver). GoodCosts q.costs) (sym is) g
+        subst (λ (q : Receiver). GoodCosts q.planes.decisions.costs) (sym is) g
 
-calls_keep : (r : Receiver) (cs : List Call) → GoodCosts r.costs → GoodCosts (state_after r cs).costs
+calls_keep : (r : Receiver) (cs : List Call) → GoodCosts r.planes.decisions.costs → GoodCosts (state_after r cs).planes.decisions.costs
 unfolding state_after
 calls_keep r [] g = g
 calls_keep r (c ∷ cs) g = calls_keep (answered_of r c).receiver cs (call_keeps r c g)
 
-setup_keeps : (rate offset : Float) (profile : ℤ) (table : List Float) → (setup_of rate offset profile table).number ≡ 0 → GoodCosts (setup_of rate offset profile table).receiver.costs
+setup_keeps : (rate offset : Float) (profile : ℤ) (table : List Float) → (setup_of rate offset profile table).number ≡ 0 → GoodCosts (setup_of rate offset profile table).receiver.planes.decisions.costs
 unfolding fresh_receiver
 setup_keeps rate offset profile table h =
-    subst (λ (r : Receiver). GoodCosts r.costs) (sym (setup_fresh rate offset profile table h).receiver)
+    subst (λ (r : Receiver). GoodCosts r.planes.decisions.costs) (sym (setup_fresh rate offset profile table h).receiver)
     (good_same (λ s. c0) _ (λ s l. sym (get_or-replicate 64 s zero32 nan l ∙ nought)) fresh_good)
 
 -- THE THEOREM: after an accepted setup and any calls, refused ones among them, each cost lies within 0 to 48
 pub costs_kept : (rate offset : Float) (profile : ℤ) (table : List Float) → (setup_of rate offset profile table).number ≡ 0
-    → (cs : List Call) (s : ℕ) → s < 64 → In c0 c48 (get_or (state_after (setup_of rate offset profile table).receiver cs).costs s nan)
+    → (cs : List Call) (s : ℕ) → s < 64 → In c0 c48 (get_or (state_after (setup_of rate offset profile table).receiver cs).planes.decisions.costs s nan)
 costs_kept rate offset profile table h cs s l = (calls_keep (setup_of rate offset profile table).receiver cs (setup_keeps rate offset profile table h)).ranged s l
 
 -- ---- THE SECOND STREAM'S COSTS, from enabling on

@@ -312,7 +312,7 @@ unfolding output_of
 recovers_within r h D R I cs n l m =
     let t = r.front.decimator in
     let zs = mixed_row (conjugated_of r.chain.profile) r.front.oscillator (taken_of r cs) in
-    let early : t.counter < t.decimation = (fits_from r.total r.front r.chain r.second r.parents r.ancestors h).front_fits.decimator.counter_in in
+    let early : t.counter < t.decimation = (fits_from r.total r.front r.chain r.second r.planes.decisions.parents r.ancestors h).front_fits.decimator.counter_in in
     let a = length-map zs counts_of in
     let b = mixed_length (conjugated_of r.chain.profile) r.front.oscillator (taken_of r cs) in
     ap (λ (os : List (Option Complex32)). get_or os n None) (given_is r cs)

@@ -44,8 +44,8 @@ module _ (r : Receiver) where
   started_admitted : admitted_of r ≡ true → admitted_of (started_of r) ≡ true
   unfolding started_of
   started_admitted h =
-      let f = fits_from r.total r.front r.chain r.second r.parents r.ancestors h in
-      fits_to r.total r.front r.chain fresh_second r.parents (replicate 2048 0) (record {
+      let f = fits_from r.total r.front r.chain r.second r.planes.decisions.parents r.ancestors h in
+      fits_to r.total r.front r.chain fresh_second r.planes.decisions.parents (replicate 2048 0) (record {
         total_in = f.total_in;
         index_in = f.index_in;
         locked_in = f.locked_in;

@@ -40,8 +40,8 @@ module _ (rate offset : Float) (profile : ℤ) (table : List Float) (accepted : 
 pub record FrontTyped (r : Receiver) : Type 0 where
   pub real_words : Words r.front.decimator.integrators.real
   pub imaginary_words : Words r.front.decimator.integrators.imaginary
-  pub ring_real : length r.ring_real ≡ 592
-  pub ring_imaginary : length r.ring_imaginary ≡ 592
+  pub ring_real : length r.ring.real ≡ 592
+  pub ring_imaginary : length r.ring.imaginary ≡ 592
 
 -- ---- after an accepted setup
 zero_words : Words (record { first = 0; second = 0; third = 0 })

@@ -332,7 +332,7 @@ module _ (r q : Receiver) (cs es : List Call) (n lead : ℕ) (l : n < length (ta
   since = r.front.decimator.counter
 
   pub fits : FrontAdmitted r.front
-  fits = (fits_from r.total r.front r.chain r.second r.parents r.ancestors (taken_admitted r cs (omega arith))).front_fits
+  fits = (fits_from r.total r.front r.chain r.second r.planes.decisions.parents r.ancestors (taken_admitted r cs (omega arith))).front_fits
 
   -- what they make of sample n is the same where the outputs of the latest c are
   pub made_alike : ((k : ℕ) → k ≤ c → k * d ≤ lead * d + since → Like k (ring_in r) (ring_in q)) → (c - 1) * d ≤ lead * d + since + n

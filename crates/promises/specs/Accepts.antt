@@ -28,12 +28,12 @@ pub record Passes (r : Receiver) (table xs : List Float) (lent : Rooms) : Type 0
 -- what the type of a state says and its admitted test does not: the next output is an f64, and these planes have their sizes. Every value of the type is so, and `setup_typed` and `block_kept` show it of every state from an accepted call
 pub record Typed (r : Receiver) : Type 0 where
   pub next : T (fits binary64 r.front.resampler.next)
-  pub keeper_real : length r.keeper_real ≡ 64
-  pub keeper_imaginary : length r.keeper_imaginary ≡ 64
-  pub channel_real : length r.channel_real ≡ 256
-  pub channel_imaginary : length r.channel_imaginary ≡ 256
-  pub costs : length r.costs ≡ 64
-  pub parents : length r.parents ≡ 2048
+  pub keeper_real : length r.planes.recovery.keeper.real ≡ 64
+  pub keeper_imaginary : length r.planes.recovery.keeper.imaginary ≡ 64
+  pub channel_real : length r.planes.decisions.channels.real ≡ 256
+  pub channel_imaginary : length r.planes.decisions.channels.imaginary ≡ 256
+  pub costs : length r.planes.decisions.costs ≡ 64
+  pub parents : length r.planes.decisions.parents ≡ 2048
   pub memory : length r.memory ≡ 9280
   pub ancestors : length r.ancestors ≡ 2048
 

@@ -101,7 +101,7 @@ module _ (r : Receiver) (lent : List Float) where
     where
       go : (b : Bool) → admitted_of r ≡ b → OnlyFirst (2 * (reading_of r lent).count) lent (reading_of r lent).output
       go true e =
-          let v = signal.view_of r.chain.view r.view_real r.view_imaginary in
+          let v = signal.view_of r.chain.view r.planes.decisions.view.real r.planes.decisions.view.imaginary in
           let n = min v.place.count (length lent / 2) in
           rw e (shown_few (signal.last_of v n) lent (let k = last_few v n in omega arith))
       go false e = absurd (let z = rw e at h in omega arith)

@@ -5,14 +5,13 @@
 
 ghost use Rattle.std.specs.Prelude.{◌≡◌, cond, ◌+◌, ◌<◌, ◌≤◌, length};
 ghost use Rattle.chain.specs.Ranges.{most_symbols, Ranged};
-ghost use Rattle.replay_chain.specs.Sound.{Sound};
-ghost use Rattle.replay_chain.specs.Lends.{Given, Left};
+ghost use Rattle.replay_chain.specs.Sound.{Sound, state_now};
 
 use answers::PARENTS;
-use answers::soft::Records;
 use carrier::{CarrierPlace, Loop};
-use chain::{ChainPlace, Chained};
+use chain::{ChainPlace, ChainPlanes, Chained, DecisionsPlanes, RecoveryPlanes};
 use clock::ClockPlace;
+use complex::Planes;
 use numbers::bits::{float, float32};
 use peak::KeeperPlace;
 use replay::{fill, mixed, mixed_bytes, mixed_flag, mixed_float32, mixed_plane, print_line, word};
@@ -21,7 +20,7 @@ use replay_detector::{
     started,
 };
 use replay_second::{Making, made_second, mixed_loop, mixed_second};
-use second::{MEMORY, Second};
+use second::MEMORY;
 use signal::ViewPlace;
 
 // The state's own words, and how many rows follow.
@@ -122,15 +121,13 @@ fn read_making(has: bool) -> Making {
 }
 
 // Values from standard input into the first places of a row.
-fn read_row(made: usize, real: &mut [f32; 256], imaginary: &mut [f32; 256])
+fn read_row(made: usize, row: &mut Planes<256>)
     requires { made ≤ 256 }
 {
-    let mut i = 0;
-    while i < made {
+    for i in 0..made {
         let value = read_word();
-        real[i] = low_float(value);
-        imaginary[i] = high_float(value);
-        i += 1;
+        row.real[i] = low_float(value);
+        row.imaginary[i] = high_float(value);
     }
 }
 
@@ -145,90 +142,77 @@ fn mixed_clock(h: u64, c: ClockPlace) -> u64 {
 }
 
 fn mixed_chain(h: u64, p: ChainPlace) -> u64 {
-    let keeper = p.keeper;
-    let clock = p.clock;
-    let carrier = p.carrier;
-    let turn = carrier.turn;
-    let view = p.view;
-    let previous = view.previous;
-    let a = mixed_loop(mixed_clock(mixed_keeper(h, keeper), clock), turn);
-    let b = mixed(mixed(a, view.head as u64), view.count as u64);
-    mixed_point(mixed(mixed(b, p.symbols), p.locked), previous)
+    let a = mixed_loop(
+        mixed_clock(mixed_keeper(h, p.keeper), p.clock),
+        p.carrier.turn,
+    );
+    let b = mixed(mixed(a, p.view.head as u64), p.view.count as u64);
+    mixed_point(mixed(mixed(b, p.symbols), p.locked), p.view.previous)
 }
 
-fn mixed_planes(h: u64, real: &[f32], imaginary: &[f32]) -> u64 {
-    mixed_plane(mixed_plane(h, real), imaginary)
+fn mixed_planes<const N: usize>(h: u64, planes: &Planes<N>) -> u64 {
+    mixed_plane(mixed_plane(h, &planes.real), &planes.imaginary)
+}
+
+// What a row's answers are written into: the first stream's, and the second's.
+#[derive(Clone, Copy)]
+struct Rooms {
+    dibits: [u8; 264],
+    reliabilities: [u8; 528],
+    others: [u8; 264],
+    other_reliabilities: [u8; 528],
 }
 
 // The digest with both streams' bytes, where the run has a second.
-fn mixed_streams(
-    h: u64,
-    has: bool,
-    dibits: &[u8; 264],
-    reliabilities: &[u8; 528],
-    others: &[u8; 264],
-    other_reliabilities: &[u8; 528],
-) -> u64 {
-    let first = mixed_bytes(mixed_bytes(h, dibits), reliabilities);
+fn mixed_rooms(h: u64, has: bool, rooms: &Rooms) -> u64 {
+    let first = mixed_bytes(mixed_bytes(h, &rooms.dibits), &rooms.reliabilities);
     if has {
-        mixed_bytes(mixed_bytes(first, others), other_reliabilities)
+        mixed_bytes(
+            mixed_bytes(first, &rooms.others),
+            &rooms.other_reliabilities,
+        )
     } else {
         first
     }
 }
 
+// What a run holds between its rows, whether it has a second stream, and whether both are asked for.
+#[derive(Clone, Copy)]
+struct Held {
+    chained: Chained,
+    planes: ChainPlanes,
+    memory: [f32; MEMORY],
+    ancestors: [u8; PARENTS],
+    has_second: bool,
+    both: bool,
+}
+
 // The digest of a row's dibits and of the whole state after it.
-fn tell(
-    c: Chained,
-    has: bool,
-    dibits: &[u8; 264],
-    reliabilities: &[u8; 528],
-    others: &[u8; 264],
-    other_reliabilities: &[u8; 528],
-    keeper_real: &[f32; 64],
-    keeper_imaginary: &[f32; 64],
-    clock_real: &[f32; 256],
-    clock_imaginary: &[f32; 256],
-    weight_real: &[f32; 21],
-    weight_imaginary: &[f32; 21],
-    channel_real: &[f32; 256],
-    channel_imaginary: &[f32; 256],
-    costs: &[f32; 64],
-    parents: &[u8; 2048],
-    view_real: &[f32; 1024],
-    view_imaginary: &[f32; 1024],
-    memory: &[f32; MEMORY],
-    ancestors: &[u8; PARENTS],
-) {
-    let p = c.place;
-    let records = c.records;
-    let carrier = p.carrier;
-    let detector = carrier.detector;
-    let h1 = mixed_streams(
-        mixed(0, c.written as u64),
-        has,
-        dibits,
-        reliabilities,
-        others,
-        other_reliabilities,
+fn tell(r: &Held, rooms: &Rooms) {
+    let c = r.chained;
+    let h1 = mixed_rooms(mixed(0, c.written as u64), r.has_second, rooms);
+    let h2 = mixed_planes(mixed_chain(h1, c.place), &r.planes.recovery.keeper);
+    let h3 = mixed_planes(h2, &r.planes.recovery.clock);
+    let h4 = mixed_planes(h3, &r.planes.recovery.weights);
+    let h5 = mixed_place(h4, c.place.carrier.detector);
+    let h6 = mixed_planes(h5, &r.planes.decisions.channels);
+    let h7 = mixed_records(
+        mixed_bytes(
+            mixed_plane(h6, &r.planes.decisions.costs),
+            &r.planes.decisions.parents,
+        ),
+        c.records,
     );
-    let h2 = mixed_planes(mixed_chain(h1, p), keeper_real, keeper_imaginary);
-    let h3 = mixed_planes(h2, clock_real, clock_imaginary);
-    let h4 = mixed_planes(h3, weight_real, weight_imaginary);
-    let h5 = mixed_place(h4, detector);
-    let h6 = mixed_planes(h5, channel_real, channel_imaginary);
-    let h7 = mixed_records(mixed_bytes(mixed_plane(h6, costs), parents), records);
-    let h8 = mixed_planes(h7, view_real, view_imaginary);
-    let second = c.second;
-    if has {
-        print_line(mixed_second(h8, second, memory, ancestors), 16);
+    let h8 = mixed_planes(h7, &r.planes.decisions.view);
+    if r.has_second {
+        print_line(mixed_second(h8, c.second, &r.memory, &r.ancestors), 16);
     } else {
         print_line(h8, 16);
     }
 }
 
 // The second stream's room is lent only where both streams are asked for.
-fn rooms(both: bool) -> usize
+fn room(both: bool) -> usize
     ensures value { result ≡ cond both 264 0 }
     ensures most { result ≤ 264 }
 {
@@ -236,176 +220,57 @@ fn rooms(both: bool) -> usize
 }
 
 // One row.
-fn row(
-    place: ChainPlace,
-    held: Records,
-    second: Second,
-    has: bool,
-    both: bool,
-    row_real: &[f32; 256],
-    row_imaginary: &[f32; 256],
-    made: usize,
-    before: usize,
-    keeper_real: &mut [f32; 64],
-    keeper_imaginary: &mut [f32; 64],
-    clock_real: &mut [f32; 256],
-    clock_imaginary: &mut [f32; 256],
-    weight_real: &mut [f32; 21],
-    weight_imaginary: &mut [f32; 21],
-    channel_real: &mut [f32; 256],
-    channel_imaginary: &mut [f32; 256],
-    costs: &mut [f32; 64],
-    parents: &mut [u8; 2048],
-    view_real: &mut [f32; 1024],
-    view_imaginary: &mut [f32; 1024],
-    memory: &mut [f32; MEMORY],
-    ancestors: &mut [u8; PARENTS],
-) -> Chained
-    requires given { Given place second
-        keeper_real keeper_imaginary clock_real clock_imaginary
-        weight_real weight_imaginary channel_real channel_imaginary costs parents
-        view_real view_imaginary memory ancestors
-        Ranged }
-    requires symbols_bound { place.symbols + 256 ≤ most_symbols }
+fn row(r: &mut Held, row: &Planes<256>, made: usize, before: usize)
+    requires ranged { Ranged (state_now r.old) }
+    requires symbols_bound { r.old.chained.place.symbols + 256 ≤ most_symbols }
     requires made_bound { made ≤ 256 }
     requires before_bound { before ≤ 8 }
-    ensures { Left result.place result.second
-        keeper_real keeper_imaginary clock_real clock_imaginary
-        weight_real weight_imaginary channel_real channel_imaginary costs parents
-        view_real view_imaginary memory ancestors
-        Ranged }
+    ensures { Ranged (state_now r.new) }
 {
-    let mut dibits = [170u8; 264];
-    let mut reliabilities = [170u8; 528];
-    let mut others = [170u8; 264];
-    let mut other_reliabilities = [170u8; 528];
-    let room = rooms(both);
+    let mut rooms = Rooms {
+        dibits: [170; 264],
+        reliabilities: [170; 528],
+        others: [170; 264],
+        other_reliabilities: [170; 528],
+    };
+    let room = room(r.both);
     let pairs = 2 * room;
-    let c = chain::chain(
-        place,
-        held,
-        second,
-        row_real,
-        row_imaginary,
+    r.chained = chain::chain(
+        Chained {
+            written: before,
+            ..r.chained
+        },
+        row,
         made,
-        &mut *keeper_real,
-        &mut *keeper_imaginary,
-        &mut *clock_real,
-        &mut *clock_imaginary,
-        &mut *weight_real,
-        &mut *weight_imaginary,
-        &mut *channel_real,
-        &mut *channel_imaginary,
-        &mut *costs,
-        &mut *parents,
-        &mut *view_real,
-        &mut *view_imaginary,
-        &mut *memory,
-        &mut *ancestors,
-        &mut dibits,
-        &mut reliabilities,
-        &mut others[..room],
-        &mut other_reliabilities[..pairs],
-        both,
-        before,
+        &mut r.planes,
+        &mut r.memory,
+        &mut r.ancestors,
+        &mut rooms.dibits,
+        &mut rooms.reliabilities,
+        &mut rooms.others[..room],
+        &mut rooms.other_reliabilities[..pairs],
+        r.both,
     );
-    tell(
-        c,
-        has,
-        &dibits,
-        &reliabilities,
-        &others,
-        &other_reliabilities,
-        keeper_real,
-        keeper_imaginary,
-        clock_real,
-        clock_imaginary,
-        weight_real,
-        weight_imaginary,
-        channel_real,
-        channel_imaginary,
-        costs,
-        parents,
-        view_real,
-        view_imaginary,
-        memory,
-        ancestors,
-    );
-    c
+    tell(r, &rooms);
 }
 
 // Rows, as many as the run says.
-fn run(
-    rows: u64,
-    place: ChainPlace,
-    held: Records,
-    first: Second,
-    has: bool,
-    both: bool,
-    keeper_real: &mut [f32; 64],
-    keeper_imaginary: &mut [f32; 64],
-    clock_real: &mut [f32; 256],
-    clock_imaginary: &mut [f32; 256],
-    weight_real: &mut [f32; 21],
-    weight_imaginary: &mut [f32; 21],
-    channel_real: &mut [f32; 256],
-    channel_imaginary: &mut [f32; 256],
-    costs: &mut [f32; 64],
-    parents: &mut [u8; 2048],
-    view_real: &mut [f32; 1024],
-    view_imaginary: &mut [f32; 1024],
-    memory: &mut [f32; MEMORY],
-    ancestors: &mut [u8; PARENTS],
-)
-    requires { Given place first
-        keeper_real keeper_imaginary clock_real clock_imaginary
-        weight_real weight_imaginary channel_real channel_imaginary costs parents
-        view_real view_imaginary memory ancestors
-        Ranged }
+fn run(r: &mut Held, rows: u64)
+    requires { Ranged (state_now r.old) }
 {
-    let mut row_real: [f32; 256] = [0.0; 256];
-    let mut row_imaginary: [f32; 256] = [0.0; 256];
-    let mut p = place;
-    let mut records = held;
-    let mut second = first;
-    let mut left = rows;
-    while left > 0 {
+    let mut values = Planes {
+        real: [0.0; 256],
+        imaginary: [0.0; 256],
+    };
+    for _ in 0..rows {
         let head = read_word();
         let made = low(head).min(256) as usize;
         let before = high(head).min(8) as usize;
-        read_row(made, &mut row_real, &mut row_imaginary);
-        if p.symbols > 9007199254740000 {
+        read_row(made, &mut values);
+        if r.chained.place.symbols > 9007199254740000 {
             break;
         }
-        let c = row(
-            p,
-            records,
-            second,
-            has,
-            both,
-            &row_real,
-            &row_imaginary,
-            made,
-            before,
-            &mut *keeper_real,
-            &mut *keeper_imaginary,
-            &mut *clock_real,
-            &mut *clock_imaginary,
-            &mut *weight_real,
-            &mut *weight_imaginary,
-            &mut *channel_real,
-            &mut *channel_imaginary,
-            &mut *costs,
-            &mut *parents,
-            &mut *view_real,
-            &mut *view_imaginary,
-            &mut *memory,
-            &mut *ancestors,
-        );
-        p = c.place;
-        records = c.records;
-        second = c.second;
-        left -= 1;
+        row(r, &values, made, before);
     }
 }
 
@@ -433,16 +298,13 @@ fn decoded(head: &[u8]) -> Request
     let places = word(head, 16);
     let view = word(head, 40);
     let symbols = word(head, 56);
-    let keeper = keeper(places, word(head, 48));
-    let clock = clock_place(word(head, 24), word(head, 32));
-    let turn = carrier_loop(places, word(head, 72), word(head, 80), word(head, 88));
     Request {
         seed: word(head, 0),
         start: word(head, 8),
         rows: word(head, 96),
-        keeper,
-        clock,
-        turn,
+        keeper: keeper(places, word(head, 48)),
+        clock: clock_place(word(head, 24), word(head, 32)),
+        turn: carrier_loop(places, word(head, 72), word(head, 80), word(head, 88)),
         head: (view % 1024) as usize,
         count: (high(view) % 1025) as usize,
         profile: profile(places),
@@ -453,88 +315,95 @@ fn decoded(head: &[u8]) -> Request
     }
 }
 
+// Numbers of a kind all over the real parts and then the imaginary ones, and the seed after them.
+fn fill_planes<const N: usize>(s: u64, kind: u64, planes: &mut Planes<N>) -> u64
+    ensures real { length planes.new.real ≡ length planes.old.real }
+    ensures imaginary { length planes.new.imaginary ≡ length planes.old.imaginary }
+{
+    let seed = fill(s, kind, &mut planes.real);
+    fill(seed, kind, &mut planes.imaginary)
+}
+
 // The planes and the places of a run's state, and its rows.
 fn answer(q: Request)
     requires { Sound q }
 {
     let start = started(q.start);
     let kind = start.floats;
-    let mut keeper_real: [f32; 64] = [0.0; 64];
-    let mut keeper_imaginary: [f32; 64] = [0.0; 64];
-    let mut clock_real: [f32; 256] = [0.0; 256];
-    let mut clock_imaginary: [f32; 256] = [0.0; 256];
-    let mut weight_real = equalizer::fresh_real();
-    let mut weight_imaginary = equalizer::fresh_imaginary();
-    let mut channel_real = sequence::step::fresh_channels();
-    let mut channel_imaginary: [f32; 256] = [0.0; 256];
-    let mut costs: [f32; 64] = [0.0; 64];
-    let mut parents: [u8; 2048] = [0; 2048];
-    let mut view_real: [f32; 1024] = [0.0; 1024];
-    let mut view_imaginary: [f32; 1024] = [0.0; 1024];
-    let s1 = fill(q.seed, kind, &mut keeper_real);
-    let s2 = fill(s1, kind, &mut keeper_imaginary);
-    let s3 = fill(s2, kind, &mut clock_real);
-    let s4 = fill(s3, kind, &mut clock_imaginary);
-    let s5 = fill(s4, kind, &mut weight_real);
-    let s6 = fill(s5, kind, &mut weight_imaginary);
-    let s7 = fill(s6, kind, &mut channel_real);
-    let s8 = fill(s7, kind, &mut channel_imaginary);
-    let s9 = fill(s8, start.costs, &mut costs);
-    let s10 = fill_parents(s9, kind, &mut parents);
-    let records = made_records(s10, kind);
-    let held = records.value;
-    let made = made_place(start, records.seed);
-    let detector = made.value;
-    let previous = made_point(made.seed, kind);
-    let s11 = fill(previous.seed, kind, &mut view_real);
-    fill(s11, kind, &mut view_imaginary);
-    let point = previous.value;
-    let view = ViewPlace {
-        previous: point,
-        head: q.head,
-        count: q.count,
+    let mut planes = ChainPlanes {
+        recovery: RecoveryPlanes {
+            keeper: Planes {
+                real: [0.0; 64],
+                imaginary: [0.0; 64],
+            },
+            clock: Planes {
+                real: [0.0; 256],
+                imaginary: [0.0; 256],
+            },
+            weights: Planes {
+                real: equalizer::fresh_real(),
+                imaginary: equalizer::fresh_imaginary(),
+            },
+        },
+        decisions: DecisionsPlanes {
+            channels: Planes {
+                real: sequence::step::fresh_channels(),
+                imaginary: [0.0; 256],
+            },
+            costs: [0.0; 64],
+            parents: [0; PARENTS],
+            view: Planes {
+                real: [0.0; 1024],
+                imaginary: [0.0; 1024],
+            },
+        },
     };
-    let keeper = q.keeper;
-    let clock = q.clock;
-    let turn = q.turn;
+    let s1 = fill_planes(q.seed, kind, &mut planes.recovery.keeper);
+    let s2 = fill_planes(s1, kind, &mut planes.recovery.clock);
+    let s3 = fill_planes(s2, kind, &mut planes.recovery.weights);
+    let s4 = fill_planes(s3, kind, &mut planes.decisions.channels);
+    let s5 = fill(s4, start.costs, &mut planes.decisions.costs);
+    let s6 = fill_parents(s5, kind, &mut planes.decisions.parents);
+    let records = made_records(s6, kind);
+    let made = made_place(start, records.seed);
+    let previous = made_point(made.seed, kind);
+    fill_planes(previous.seed, kind, &mut planes.decisions.view);
     let mut memory: [f32; MEMORY] = [0.0; MEMORY];
     let mut ancestors: [u8; PARENTS] = [0; PARENTS];
     let second = made_second(read_making(q.has_second), &mut memory, &mut ancestors);
-    if !clock::is_admitted(clock) {
+    if !clock::is_admitted(q.clock) {
         io::write_all(1, b"not admitted\n");
         return;
     }
-    let p = ChainPlace {
-        keeper,
-        clock,
-        carrier: CarrierPlace { turn, detector },
-        view,
-        profile: q.profile,
-        symbols: q.symbols,
-        locked: q.locked,
+    let mut r = Held {
+        chained: Chained {
+            place: ChainPlace {
+                keeper: q.keeper,
+                clock: q.clock,
+                carrier: CarrierPlace {
+                    turn: q.turn,
+                    detector: made.value,
+                },
+                view: ViewPlace {
+                    previous: previous.value,
+                    head: q.head,
+                    count: q.count,
+                },
+                profile: q.profile,
+                symbols: q.symbols,
+                locked: q.locked,
+            },
+            records: records.value,
+            second,
+            written: 0,
+        },
+        planes,
+        memory,
+        ancestors,
+        has_second: q.has_second,
+        both: q.both,
     };
-    run(
-        q.rows,
-        p,
-        held,
-        second,
-        q.has_second,
-        q.both,
-        &mut keeper_real,
-        &mut keeper_imaginary,
-        &mut clock_real,
-        &mut clock_imaginary,
-        &mut weight_real,
-        &mut weight_imaginary,
-        &mut channel_real,
-        &mut channel_imaginary,
-        &mut costs,
-        &mut parents,
-        &mut view_real,
-        &mut view_imaginary,
-        &mut memory,
-        &mut ancestors,
-    );
+    run(&mut r, q.rows);
 }
 
 // Whether a run was read, and answered.

@@ -12,7 +12,7 @@ use answers::walk::Previous;
 use carrier::{CarrierPlace, Loop};
 use chain::ChainPlace;
 use clock::ClockPlace;
-use complex::Complex32;
+use complex::{Complex32, Planes};
 use decimator::{Decimator, Parts, Stages};
 use front::FrontPlace;
 use numbers::bits::{float, float32, pattern, pattern32};
@@ -255,6 +255,14 @@ fn take_plane(words: &[u64; WORDS], from: usize, plane: &mut [f32])
     }
 }
 
+// The real parts from there on, and then the imaginary ones.
+fn take_planes<const N: usize>(words: &[u64; WORDS], from: usize, planes: &mut Planes<N>)
+    requires { from + N < 18262 }
+{
+    take_plane(words, from, &mut planes.real);
+    take_plane(words, from + N, &mut planes.imaginary);
+}
+
 fn take_parents(words: &[u64; WORDS], from: usize, parents: &mut [u8; PARENTS])
     requires { from + 2047 < 18262 }
 {
@@ -271,55 +279,17 @@ pub fn decoded(words: &[u64; WORDS]) -> Receiver {
     r.front = front_at(words);
     r.chain = chain_at(words);
     r.records = records_at(words, 4549);
-    let mut ring_real = [0.0; 592];
-    take_plane(words, 59, &mut ring_real);
-    r.ring_real = ring_real;
-    let mut ring_imaginary = [0.0; 592];
-    take_plane(words, 651, &mut ring_imaginary);
-    r.ring_imaginary = ring_imaginary;
-    let mut keeper_real = [0.0; 64];
-    take_plane(words, 1243, &mut keeper_real);
-    r.keeper_real = keeper_real;
-    let mut keeper_imaginary = [0.0; 64];
-    take_plane(words, 1307, &mut keeper_imaginary);
-    r.keeper_imaginary = keeper_imaginary;
-    let mut clock_real = [0.0; 256];
-    take_plane(words, 1371, &mut clock_real);
-    r.clock_real = clock_real;
-    let mut clock_imaginary = [0.0; 256];
-    take_plane(words, 1627, &mut clock_imaginary);
-    r.clock_imaginary = clock_imaginary;
-    let mut weight_real = [0.0; 21];
-    take_plane(words, 1883, &mut weight_real);
-    r.weight_real = weight_real;
-    let mut weight_imaginary = [0.0; 21];
-    take_plane(words, 1904, &mut weight_imaginary);
-    r.weight_imaginary = weight_imaginary;
-    let mut channel_real = [0.0; 256];
-    take_plane(words, 1925, &mut channel_real);
-    r.channel_real = channel_real;
-    let mut channel_imaginary = [0.0; 256];
-    take_plane(words, 2181, &mut channel_imaginary);
-    r.channel_imaginary = channel_imaginary;
-    let mut costs = [0.0; 64];
-    take_plane(words, 2437, &mut costs);
-    r.costs = costs;
-    let mut view_real = [0.0; 1024];
-    take_plane(words, 4709, &mut view_real);
-    r.view_real = view_real;
-    let mut view_imaginary = [0.0; 1024];
-    take_plane(words, 5733, &mut view_imaginary);
-    r.view_imaginary = view_imaginary;
-    let mut parents = [0; PARENTS];
-    take_parents(words, 2501, &mut parents);
-    r.parents = parents;
+    take_planes(words, 59, &mut r.ring);
+    take_planes(words, 1243, &mut r.planes.recovery.keeper);
+    take_planes(words, 1371, &mut r.planes.recovery.clock);
+    take_planes(words, 1883, &mut r.planes.recovery.weights);
+    take_planes(words, 1925, &mut r.planes.decisions.channels);
+    take_plane(words, 2437, &mut r.planes.decisions.costs);
+    take_parents(words, 2501, &mut r.planes.decisions.parents);
+    take_planes(words, 4709, &mut r.planes.decisions.view);
     r.second = second_at(words);
-    let mut memory = [0.0; MEMORY];
-    take_plane(words, 6934, &mut memory);
-    r.memory = memory;
-    let mut ancestors = [0; PARENTS];
-    take_parents(words, 16214, &mut ancestors);
-    r.ancestors = ancestors;
+    take_plane(words, 6934, &mut r.memory);
+    take_parents(words, 16214, &mut r.ancestors);
     r
 }
 
@@ -553,34 +523,12 @@ fn put_plane(words: &mut [u64; WORDS], from: usize, plane: &[f32])
     }
 }
 
-fn put_592(words: &mut [u64; WORDS], from: usize, plane: [f32; 592])
-    requires { from < 18262 }
+// The real parts from there on, and then the imaginary ones.
+fn put_planes<const N: usize>(words: &mut [u64; WORDS], from: usize, planes: &Planes<N>)
+    requires { from + N < 18262 }
 {
-    put_plane(words, from, &plane);
-}
-
-fn put_64(words: &mut [u64; WORDS], from: usize, plane: [f32; 64])
-    requires { from < 18262 }
-{
-    put_plane(words, from, &plane);
-}
-
-fn put_256(words: &mut [u64; WORDS], from: usize, plane: [f32; 256])
-    requires { from < 18262 }
-{
-    put_plane(words, from, &plane);
-}
-
-fn put_21(words: &mut [u64; WORDS], from: usize, plane: [f32; 21])
-    requires { from < 18262 }
-{
-    put_plane(words, from, &plane);
-}
-
-fn put_1024(words: &mut [u64; WORDS], from: usize, plane: [f32; 1024])
-    requires { from < 18262 }
-{
-    put_plane(words, from, &plane);
+    put_plane(words, from, &planes.real);
+    put_plane(words, from + N, &planes.imaginary);
 }
 
 fn put_parents(words: &mut [u64; WORDS], from: usize, parents: &[u8; PARENTS])
@@ -611,35 +559,13 @@ pub fn encode(r: Receiver, words: &mut [u64; WORDS]) {
     put_front(words, r.front);
     put_chain(words, r.chain);
     put_records(words, 4549, r.records);
-    let ring_real = r.ring_real;
-    put_592(words, 59, ring_real);
-    let ring_imaginary = r.ring_imaginary;
-    put_592(words, 651, ring_imaginary);
-    let keeper_real = r.keeper_real;
-    put_64(words, 1243, keeper_real);
-    let keeper_imaginary = r.keeper_imaginary;
-    put_64(words, 1307, keeper_imaginary);
-    let clock_real = r.clock_real;
-    put_256(words, 1371, clock_real);
-    let clock_imaginary = r.clock_imaginary;
-    put_256(words, 1627, clock_imaginary);
-    let weight_real = r.weight_real;
-    put_21(words, 1883, weight_real);
-    let weight_imaginary = r.weight_imaginary;
-    put_21(words, 1904, weight_imaginary);
-    let channel_real = r.channel_real;
-    put_256(words, 1925, channel_real);
-    let channel_imaginary = r.channel_imaginary;
-    put_256(words, 2181, channel_imaginary);
-    let costs = r.costs;
-    put_64(words, 2437, costs);
-    let view_real = r.view_real;
-    put_1024(words, 4709, view_real);
-    let view_imaginary = r.view_imaginary;
-    put_1024(words, 5733, view_imaginary);
-    let parents = r.parents;
-    put_parents(words, 2501, &parents);
-    let memory = r.memory;
-    let ancestors = r.ancestors;
-    put_second(words, r.second, &memory, &ancestors);
+    put_planes(words, 59, &r.ring);
+    put_planes(words, 1243, &r.planes.recovery.keeper);
+    put_planes(words, 1371, &r.planes.recovery.clock);
+    put_planes(words, 1883, &r.planes.recovery.weights);
+    put_planes(words, 1925, &r.planes.decisions.channels);
+    put_plane(words, 2437, &r.planes.decisions.costs);
+    put_planes(words, 4709, &r.planes.decisions.view);
+    put_parents(words, 2501, &r.planes.decisions.parents);
+    put_second(words, r.second, &r.memory, &r.ancestors);
 }

@@ -12,7 +12,7 @@ run-requires c =
     let q = c.requires in
     record {
       recovery = record {
-        keeper = record { head = q.keeper_head; fill = q.keeper_fill; real_size = c.fill-s1.ensures; imaginary_size = c.fill-s2.ensures };
+        keeper = record { head = q.keeper_head; fill = q.keeper_fill; real_size = c.fill_planes-s1.ensures.real; imaginary_size = c.fill_planes-s1.ensures.imaginary };
         clock = admitted_facts _ (sym c.is_admitted.ensures ∙ c.if-not-is_admitted.false);
       };
       decisions = record {
@@ -21,12 +21,12 @@ run-requires c =
           detector = record {
             skeleton = record {
               place = record { write = c.made_place-made.ensures.0; filled = c.made_place-made.ensures.1; earlier = c.made_place-made.ensures.2 };
-              table = c.fill_parents-s10.ensures.0;
-              costs_size = c.fill-s9.ensures;
-              parents_size = c.fill_parents-s10.ensures.1;
+              table = c.fill_parents-s6.ensures.0;
+              costs_size = c.fill-s5.ensures;
+              parents_size = c.fill_parents-s6.ensures.1;
             };
-            real_size = c.fill-s7.ensures ∙ ap length c.fresh_channels-channel_real.ensures ∙ length_upto _ _;
-            imaginary_size = c.fill-s8.ensures;
+            real_size = c.fill_planes-s4.ensures.real ∙ ap length c.fresh_channels.ensures ∙ length_upto _ _;
+            imaginary_size = c.fill_planes-s4.ensures.imaginary;
           };
         };
         view = record { head = q.view_head; count = q.view_count };

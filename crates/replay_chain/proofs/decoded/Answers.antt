@@ -17,4 +17,4 @@ word-requires-10 c =
 
 pub returns : goal.returns
 returns c =
-    record { keeper_head = c.keeper-keeper.ensures.0; keeper_fill = c.keeper-keeper.ensures.1; alternation = c.carrier_loop-turn.ensures; view_head = search rules; view_count = search rules; locked = omega (arith, c.min.ensures) }
+    record { keeper_head = c.keeper.ensures.0; keeper_fill = c.keeper.ensures.1; alternation = c.carrier_loop.ensures; view_head = search rules; view_count = search rules; locked = omega (arith, c.min.ensures) }

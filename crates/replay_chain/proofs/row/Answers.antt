@@ -7,36 +7,28 @@ use borrow.Author.Rules.{rules}
 use Rattle.replay_chain.proofs.row.Goals as goal
 
 pub overflow_mul-pairs : goal.overflow_mul-pairs
-overflow_mul-pairs c = omega (arith, c.rooms-room.ensures.most)
-
-pub slice_bounds-others-end : goal.slice_bounds-others-end
-slice_bounds-others-end c =
-    c.rooms-room.ensures.most
+overflow_mul-pairs c = omega (arith, c.room-room.ensures.most)
 
 pub slice_bounds-chain-end-4 : goal.slice_bounds-chain-end-4
 slice_bounds-chain-end-4 c =
-    sym (length-take-le _ _ c.rooms-room.ensures.most)
-
-pub slice_bounds-other_reliabilities-end : goal.slice_bounds-other_reliabilities-end
-slice_bounds-other_reliabilities-end c =
-    omega (arith, c.rooms-room.ensures.most)
+    sym (length-take-le _ _ c.room-room.ensures.most)
 
 pub slice_bounds-chain-end-5 : goal.slice_bounds-chain-end-5
 slice_bounds-chain-end-5 c =
-    sym (length-take-le _ _ (omega (arith, c.rooms-room.ensures.most)))
+    sym (length-take-le _ _ (omega (arith, c.room-room.ensures.most)))
 
-pub chain-c-requires : goal.chain-c-requires
-chain-c-requires c =
+pub chain-r-requires : goal.chain-r-requires
+chain-r-requires c =
     let asked = c.requires in record {
       given = record {
-        state = asked.given;
+        state = asked.ranged;
         symbols = omega (arith, asked.symbols_bound, asked.made_bound);
         room = record { dibits = search (rules, asked.made_bound, asked.before_bound); reliabilities = search (rules, asked.made_bound, asked.before_bound) };
-        other = lent_rooms _ _ _ _ _ _ c.rooms-room.ensures.value refl refl asked.made_bound asked.before_bound;
+        other = lent_rooms _ _ _ _ _ _ c.room-room.ensures.value refl refl asked.made_bound asked.before_bound;
       };
       made_bound = asked.made_bound;
     }
 
 pub returns : goal.returns
 returns c =
-    c.chain-c.ensures.1.ranged
+    c.chain-r.ensures.1.ranged
