@@ -1,7 +1,7 @@
 -- Demand 3 for the receiver's own decimator, over all the samples that it takes, block after block. At d above 1 every d-th sample since setup gives the resampler an output, and no other does; the output is
 -- the sum of the latest 3d - 2 mixed and quantised samples, each weighted by the number of ways to write its age as an ordered sum of three numbers from 0 to d - 1, modulo 2 ^ 64 and read as signed, then
 -- scaled and narrowed. Where those samples lie within 2 ^ 44, as they do while mixed parts are at most 2 ^ 29 in size, it is exactly that sum. At d = 1 the mixed samples are passed through. Assumes nothing.
-use Rattle.std.specs.Prelude.{◌≡◌, Bool, true, false, cond, ◌⊎◌, eqb, ℤ, length, get_or, Float}
+use Rattle.std.specs.Prelude.{◌≡◌, Bool, true, false, cond, ◌⊎◌, eqb, ℤ, length, get_or, Float, Option}
 use Rattle.std.proofs.Math.Path.{refl, sym, ap}
 use Rattle.std.proofs.Common.{◌∙◌, inl, inr, arith, le-ltb}
 use mathlib.Core.List.{List, [], ◌∷◌, ◌++◌, map, foldl, foldl-append}
@@ -35,7 +35,6 @@ use Rattle.resampler.specs.Admitted.{Sized}
 use Rattle.resampler.specs.Ranges.{sized_in}
 use Rattle.front.specs.Front as front
 use Rattle.taps.specs.Taps.{both_tables}
-use Rattle.answers.specs.declared.soft.Slot.{Slot}
 use Rattle.chain.specs.Chain as chain
 use Rattle.chain.specs.Rows as rows
 use Rattle.chain.specs.RowLaws.{ran_profile}
@@ -52,6 +51,7 @@ use Rattle.receiver.specs.Block.{one, dibit_room, reliability_room, start_of, ac
 use Rattle.promises.specs.Tables.{setup_fresh}
 use Rattle.promises.specs.Small.{Small, small_counts}
 use Rattle.promises.specs.Taken.{Call, answered_of, taken_where, taken_of, rung_before, given_at, given_of, mixed_row}
+use Rattle.answers.specs.declared.soft.Soft.{Soft}
 
 -- ---- rows in turn
 abbrev oscillator_after : Oscillator → List Complex32 → Oscillator
@@ -123,7 +123,7 @@ module _ (conjugated : Bool) (table xs : List Float) (h : front.Run) where
       ∙ ap (outputs_of s) (sym (mixed_more k))
 
 -- ---- a chain keeps its profile
-chain_profile : (values : List Complex32) (t : chain.ChainState) (records : List Slot) (room other : rows.Room) → (rows.chain_of values t records room other).state.place.profile ≡ t.place.profile
+chain_profile : (values : List Complex32) (t : chain.ChainState) (records : List (Option Soft)) (room other : rows.Room) → (rows.chain_of values t records room other).state.place.profile ≡ t.place.profile
 unfolding rows.chain_of
 chain_profile values t records room other = ran_profile both_tables.taps both_tables.derivatives values (rows.start t records)
 
