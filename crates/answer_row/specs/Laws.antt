@@ -1,32 +1,32 @@
 -- What is put is what is read there, and no other place is touched. Assumes nothing.
-use Rattle.std.specs.Prelude.{◌≡◌, ◌≢◌, ℕ, ◌+◌, ◌*◌, ◌<◌, Bool, true, false, List, length, get_or, set}
+use Rattle.std.specs.Prelude.{◌≡◌, ◌≢◌, ℕ, ◌+◌, ◌*◌, ◌<◌, Bool, true, false, List, length, get_or, set, Option, None, Some}
 use Rattle.std.proofs.Common.{◌∙◌, arith, length-set, get_or-set_same, get_or-set_other}
-use Rattle.answers.specs.declared.walk.Answer.{Answer}
-use Rattle.answers.specs.declared.walk.Answer.TheVariants.{Silent, Dibit}
 use Rattle.answer_row.specs.AnswerRow.{AnswerRow, answer_at, told_at, is_dibit, locked_at, flags_put, bytes_put, put_of, Sized}
+use Rattle.answers.specs.declared.walk.Dibit.{Dibit}
 
 -- ---- a put's two ways
-pub put_silent : (row : AnswerRow) (k : ℕ) (a : Answer) (locked : Bool) → a ≡ Silent
+pub put_silent : (row : AnswerRow) (k : ℕ) (a : Option Dibit) (locked : Bool) → a ≡ None
     → ◌≡◌ {A = AnswerRow} (record { flags = flags_put row.flags k false locked; bytes = row.bytes }) (put_of row k a locked)
 put_silent row k a locked e = rw e
 
-pub put_dibit : (row : AnswerRow) (k : ℕ) (a : Answer) (locked : Bool) (d h l : ℕ) → a ≡ Dibit d h l
-    → ◌≡◌ {A = AnswerRow} (record { flags = flags_put row.flags k true locked; bytes = bytes_put row.bytes k d h l }) (put_of row k a locked)
-put_dibit row k a locked d h l e = rw e
+pub put_dibit : (row : AnswerRow) (k : ℕ) (a : Option Dibit) (locked : Bool) (d : Dibit) → a ≡ Some d
+    → ◌≡◌ {A = AnswerRow} (record { flags = flags_put row.flags k true locked; bytes = bytes_put row.bytes k d.value d.high d.low }) (put_of row k a locked)
+put_dibit row k a locked d e = rw e
 
 -- ---- a read's two ways
-pub answer_told : (row : AnswerRow) (k : ℕ) → get_or row.flags (2 * k) false ≡ true → Dibit (get_or row.bytes (3 * k) 0) (get_or row.bytes (3 * k + 1) 0) (get_or row.bytes (3 * k + 2) 0) ≡ answer_at row k
+pub answer_told : (row : AnswerRow) (k : ℕ) → get_or row.flags (2 * k) false ≡ true
+    → ◌≡◌ {A = Option Dibit} (Some (record { value = get_or row.bytes (3 * k) 0; high = get_or row.bytes (3 * k + 1) 0; low = get_or row.bytes (3 * k + 2) 0 })) (answer_at row k)
 unfolding answer_at
 answer_told row k e = rw e
 
-pub answer_silent : (row : AnswerRow) (k : ℕ) → get_or row.flags (2 * k) false ≡ false → Silent ≡ answer_at row k
+pub answer_silent : (row : AnswerRow) (k : ℕ) → get_or row.flags (2 * k) false ≡ false → None ≡ answer_at row k
 unfolding answer_at
 answer_silent row k e = rw e
 
 -- the row keeps its lengths
-pub put_sized : (row : AnswerRow) (k : ℕ) (a : Answer) (locked : Bool) → Sized row → Sized (put_of row k a locked)
-put_sized row k Silent locked h = record { flags = simp length-set h.flags; bytes = h.bytes }
-put_sized row k (Dibit d i l) locked h = record { flags = simp length-set h.flags; bytes = simp length-set h.bytes }
+pub put_sized : (row : AnswerRow) (k : ℕ) (a : Option Dibit) (locked : Bool) → Sized row → Sized (put_of row k a locked)
+put_sized row k None locked h = record { flags = simp length-set h.flags; bytes = h.bytes }
+put_sized row k (Some d) locked h = record { flags = simp length-set h.flags; bytes = simp length-set h.bytes }
 
 -- ---- the flags
 module _ (flags : List Bool) (k : ℕ) (told locked : Bool) where
@@ -65,36 +65,36 @@ module _ (bytes : List ℕ) (k dibit high low : ℕ) where
       ∙ get_or-set_other bytes (3 * k) i dibit 0 a
 
 -- ---- WHAT IS PUT IS READ
-pub answer_put : (row : AnswerRow) (k : ℕ) (a : Answer) (locked : Bool) → Sized row → k < 256 → answer_at (put_of row k a locked) k ≡ a
+pub answer_put : (row : AnswerRow) (k : ℕ) (a : Option Dibit) (locked : Bool) → Sized row → k < 256 → answer_at (put_of row k a locked) k ≡ a
 unfolding answer_at
-answer_put row k Silent locked s h = rw (told_there row.flags k false locked s.flags h)
-answer_put row k (Dibit d i l) locked s h =
-    rw (told_there row.flags k true locked s.flags h, dibit_there row.bytes k d i l s.bytes h, high_there row.bytes k d i l s.bytes h, low_there row.bytes k d i l s.bytes h)
+answer_put row k None locked s h = rw (told_there row.flags k false locked s.flags h)
+answer_put row k (Some d) locked s h =
+    rw (told_there row.flags k true locked s.flags h, dibit_there row.bytes k d.value d.high d.low s.bytes h, high_there row.bytes k d.value d.high d.low s.bytes h, low_there row.bytes k d.value d.high d.low s.bytes h)
 
-pub locked_put : (row : AnswerRow) (k : ℕ) (a : Answer) (locked : Bool) → Sized row → k < 256 → locked_at (put_of row k a locked).flags k ≡ locked
-locked_put row k Silent locked s h = locked_there row.flags k false locked s.flags h
-locked_put row k (Dibit d i l) locked s h = locked_there row.flags k true locked s.flags h
+pub locked_put : (row : AnswerRow) (k : ℕ) (a : Option Dibit) (locked : Bool) → Sized row → k < 256 → locked_at (put_of row k a locked).flags k ≡ locked
+locked_put row k None locked s h = locked_there row.flags k false locked s.flags h
+locked_put row k (Some d) locked s h = locked_there row.flags k true locked s.flags h
 
-pub told_put : (row : AnswerRow) (k : ℕ) (a : Answer) (locked : Bool) → Sized row → k < 256 → told_at (put_of row k a locked).flags k ≡ is_dibit a
-told_put row k Silent locked s h = told_there row.flags k false locked s.flags h
-told_put row k (Dibit d i l) locked s h = told_there row.flags k true locked s.flags h
+pub told_put : (row : AnswerRow) (k : ℕ) (a : Option Dibit) (locked : Bool) → Sized row → k < 256 → told_at (put_of row k a locked).flags k ≡ is_dibit a
+told_put row k None locked s h = told_there row.flags k false locked s.flags h
+told_put row k (Some d) locked s h = told_there row.flags k true locked s.flags h
 
 -- ---- NO OTHER ANSWER IS TOUCHED
-pub answer_kept : (row : AnswerRow) (k : ℕ) (a : Answer) (locked : Bool) (m : ℕ) → m ≢ k → answer_at (put_of row k a locked) m ≡ answer_at row m
+pub answer_kept : (row : AnswerRow) (k : ℕ) (a : Option Dibit) (locked : Bool) (m : ℕ) → m ≢ k → answer_at (put_of row k a locked) m ≡ answer_at row m
 unfolding answer_at
-answer_kept row k Silent locked m n = rw (flag_elsewhere row.flags k false locked (2 * m) (λ e. n (omega arith)) (λ e. omega arith))
-answer_kept row k (Dibit d i l) locked m n =
+answer_kept row k None locked m n = rw (flag_elsewhere row.flags k false locked (2 * m) (λ e. n (omega arith)) (λ e. omega arith))
+answer_kept row k (Some d) locked m n =
     rw (
       flag_elsewhere row.flags k true locked (2 * m) (λ e. n (omega arith)) (λ e. omega arith),
-      byte_elsewhere row.bytes k d i l (3 * m) (λ e. n (omega arith)) (λ e. omega arith) (λ e. omega arith),
-      byte_elsewhere row.bytes k d i l (3 * m + 1) (λ e. omega arith) (λ e. n (omega arith)) (λ e. omega arith),
-      byte_elsewhere row.bytes k d i l (3 * m + 2) (λ e. omega arith) (λ e. omega arith) (λ e. n (omega arith)),
+      byte_elsewhere row.bytes k d.value d.high d.low (3 * m) (λ e. n (omega arith)) (λ e. omega arith) (λ e. omega arith),
+      byte_elsewhere row.bytes k d.value d.high d.low (3 * m + 1) (λ e. omega arith) (λ e. n (omega arith)) (λ e. omega arith),
+      byte_elsewhere row.bytes k d.value d.high d.low (3 * m + 2) (λ e. omega arith) (λ e. omega arith) (λ e. n (omega arith)),
     )
 
-pub locked_kept : (row : AnswerRow) (k : ℕ) (a : Answer) (locked : Bool) (m : ℕ) → m ≢ k → locked_at (put_of row k a locked).flags m ≡ locked_at row.flags m
-locked_kept row k Silent locked m n = flag_elsewhere row.flags k false locked (2 * m + 1) (λ e. omega arith) (λ e. n (omega arith))
-locked_kept row k (Dibit d i l) locked m n = flag_elsewhere row.flags k true locked (2 * m + 1) (λ e. omega arith) (λ e. n (omega arith))
+pub locked_kept : (row : AnswerRow) (k : ℕ) (a : Option Dibit) (locked : Bool) (m : ℕ) → m ≢ k → locked_at (put_of row k a locked).flags m ≡ locked_at row.flags m
+locked_kept row k None locked m n = flag_elsewhere row.flags k false locked (2 * m + 1) (λ e. omega arith) (λ e. n (omega arith))
+locked_kept row k (Some d) locked m n = flag_elsewhere row.flags k true locked (2 * m + 1) (λ e. omega arith) (λ e. n (omega arith))
 
-pub told_kept : (row : AnswerRow) (k : ℕ) (a : Answer) (locked : Bool) (m : ℕ) → m ≢ k → told_at (put_of row k a locked).flags m ≡ told_at row.flags m
-told_kept row k Silent locked m n = flag_elsewhere row.flags k false locked (2 * m) (λ e. n (omega arith)) (λ e. omega arith)
-told_kept row k (Dibit d i l) locked m n = flag_elsewhere row.flags k true locked (2 * m) (λ e. n (omega arith)) (λ e. omega arith)
+pub told_kept : (row : AnswerRow) (k : ℕ) (a : Option Dibit) (locked : Bool) (m : ℕ) → m ≢ k → told_at (put_of row k a locked).flags m ≡ told_at row.flags m
+told_kept row k None locked m n = flag_elsewhere row.flags k false locked (2 * m) (λ e. n (omega arith)) (λ e. omega arith)
+told_kept row k (Some d) locked m n = flag_elsewhere row.flags k true locked (2 * m) (λ e. n (omega arith)) (λ e. omega arith)

@@ -8,7 +8,7 @@ ghost use Rattle.std.specs.Prelude.{◌≡◌, ◌<◌};
 ghost use Rattle.answer_row.specs.AnswerRow.{put_of, answer_at, told_at, locked_at};
 ghost use Rattle.answer_row.specs.Lends.{LeavesAnswers};
 
-use answers::walk::Answer;
+use answers::walk::Dibit;
 
 // The two arrays' lengths: a row holds at most 256 answers.
 pub const FLAGS: usize = 512;
@@ -18,7 +18,7 @@ pub const BYTES: usize = 768;
 // Puts an answer, and whether the carrier is locked, into the row.
 pub fn put(
     at: usize,
-    answer: Answer,
+    answer: Option<Dibit>,
     locked: bool,
     flags: &mut [bool; FLAGS],
     bytes: &mut [u8; BYTES],
@@ -27,25 +27,29 @@ pub fn put(
     ensures { LeavesAnswers flags bytes (λ b a. a ≡ put_of b at answer locked) }
 {
     flags[2 * at + 1] = locked;
-    let Answer::Dibit(dibit, high, low) = answer else {
+    let Some(d) = answer else {
         flags[2 * at] = false;
         return;
     };
     flags[2 * at] = true;
-    bytes[3 * at] = dibit;
-    bytes[3 * at + 1] = high;
-    bytes[3 * at + 2] = low;
+    bytes[3 * at] = d.value;
+    bytes[3 * at + 1] = d.high;
+    bytes[3 * at + 2] = d.low;
 }
 
 // The answer to a symbol of the row.
-pub fn answer_at(at: usize, flags: &[bool; FLAGS], bytes: &[u8; BYTES]) -> Answer
+pub fn answer_at(at: usize, flags: &[bool; FLAGS], bytes: &[u8; BYTES]) -> Option<Dibit>
     requires { at < 256 }
     ensures { result ≡ answer_at (record { flags = flags.entry.now; bytes = bytes.now }) at }
 {
     if flags[2 * at] {
-        return Answer::Dibit(bytes[3 * at], bytes[3 * at + 1], bytes[3 * at + 2]);
+        return Some(Dibit {
+            value: bytes[3 * at],
+            high: bytes[3 * at + 1],
+            low: bytes[3 * at + 2],
+        });
     }
-    Answer::Silent
+    None
 }
 
 // Whether there is a dibit for a symbol of the row.

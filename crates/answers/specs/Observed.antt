@@ -10,10 +10,8 @@ use Rattle.complex.specs.declared.Complex32.{Complex32}
 use Rattle.complex.specs.Complex.{difference_of, product_of, conjugate_product_of, power_of, both_finite}
 use Rattle.channels.specs.declared.channel.Taps.{Taps}
 use Rattle.channels.specs.Channels.{level, symbol_of}
-use Rattle.answers.specs.declared.combine.Seen.{Seen}
 use Rattle.answers.specs.declared.soft.Soft.{Soft}
-use Rattle.answers.specs.declared.soft.Soft.TheVariants.{Unrecorded, Recorded}
-use Rattle.answers.specs.declared.soft.Slot.{Slot}
+use Rattle.answers.specs.declared.combine.Seen.{Seen}
 
 -- ---- the observation
 
@@ -81,26 +79,23 @@ scale_of now before noise =
 
 -- the higher bit and its reliability come of the imaginary part, the lower of the real part
 unfoldable pub recorded_of : Complex32 → Complex32 → Float → Soft
-recorded_of now before noise =
-    Recorded
-    (lt (eighth_turned_of (conjugate_product_of now before)).imaginary zero32)
-    (lt (eighth_turned_of (conjugate_product_of now before)).real zero32)
-    (mul binary32 (abs_of (eighth_turned_of (conjugate_product_of now before)).imaginary) (scale_of now before noise))
-    (mul binary32 (abs_of (eighth_turned_of (conjugate_product_of now before)).real) (scale_of now before noise))
+recorded_of now before noise = record {
+  high_sign = lt (eighth_turned_of (conjugate_product_of now before)).imaginary zero32;
+  low_sign = lt (eighth_turned_of (conjugate_product_of now before)).real zero32;
+  high_reliability = mul binary32 (abs_of (eighth_turned_of (conjugate_product_of now before)).imaginary) (scale_of now before noise);
+  low_reliability = mul binary32 (abs_of (eighth_turned_of (conjugate_product_of now before)).real) (scale_of now before noise);
+}
 
-abbrev pub record_of : Option Complex32 → Option Complex32 → Float → Soft
-record_of None before noise = Unrecorded
-record_of (Some a) None noise = Unrecorded
-record_of (Some a) (Some b) noise = recorded_of a b noise
+abbrev pub record_of : Option Complex32 → Option Complex32 → Float → Option Soft
+record_of None before noise = None
+record_of (Some a) None noise = None
+record_of (Some a) (Some b) noise = Some (recorded_of a b noise)
 
 -- ---- the ring of records
 
-abbrev pub slot_of : Soft → Slot
-slot_of s = record { soft = s }
-
 -- the record of 31 steps before the step that is stored at `write`
-abbrev pub record_before : List Slot → ℕ → Soft
-record_before slots write = (get_or slots ((write + 1) % 32) (slot_of Unrecorded)).soft
+abbrev pub record_before : List (Option Soft) → ℕ → Option Soft
+record_before slots write = get_or slots ((write + 1) % 32) None
 
 -- ---- reliabilities
 

@@ -20,12 +20,9 @@ fn cancelled(input: Complex32, t: Taps, prior: u32) -> Complex32
     requires { prior < 64 }
     ensures { result ≡ cancelled_of input t prior }
 {
-    let one = t.one;
-    let two = t.two;
-    let three = t.three;
-    let a = subtracted(input, multiplied(one, symbol(prior % 4)));
-    let b = subtracted(a, multiplied(two, symbol(prior / 4 % 4)));
-    subtracted(b, multiplied(three, symbol(prior / 16)))
+    let a = subtracted(input, multiplied(t.one, symbol(prior % 4)));
+    let b = subtracted(a, multiplied(t.two, symbol(prior / 4 % 4)));
+    subtracted(b, multiplied(t.three, symbol(prior / 16)))
 }
 
 fn is_usable(reliable: bool, power: f32) -> bool
@@ -48,9 +45,8 @@ pub fn observed(input: Complex32, reliable: bool, t: Taps, prior: u32) -> Seen
     requires { prior < 64 }
     ensures { result ≡ observed_of input reliable t prior }
 {
-    let main = t.main;
-    let p = power(main);
-    let v = multiplied_conjugate(cancelled(input, t, prior), main);
+    let p = power(t.main);
+    let v = multiplied_conjugate(cancelled(input, t, prior), t.main);
     if is_usable(reliable, p) & is_finite(v) {
         Seen {
             combined: Some(v),

@@ -8,32 +8,28 @@ use numbers::compare::{abs, clamp, is_finite, max, min};
 use routines::hypotenuse::hypotenuse;
 use whole::to_u8;
 
-// No record, or two sign bits and two reliabilities, the dibit's higher bit first.
+// The sign bits of a dibit's higher and lower bit, and their reliabilities.
 #[derive(Clone, Copy)]
-pub enum Soft {
-    Unrecorded,
-    Recorded(bool, bool, f32, f32),
+pub struct Soft {
+    pub high_sign: bool,
+    pub low_sign: bool,
+    pub high_reliability: f32,
+    pub low_reliability: f32,
 }
 
-#[derive(Clone, Copy)]
-pub struct Slot {
-    pub soft: Soft,
-}
-
-// The records of 32 steps.
+// The records of 32 steps, of those that have one.
 #[derive(Clone, Copy)]
 pub struct Records {
-    pub slots: [Slot; STEPS],
+    pub slots: [Option<Soft>; STEPS],
 }
 
 // The record of 31 steps before the step that is stored at `write`: the oldest of the ring.
-pub fn oldest(records: Records, write: usize) -> Soft
+pub fn oldest(records: Records, write: usize) -> Option<Soft>
     requires { write < 32 }
     ensures { result ≡ record_before records.slots write }
 {
     let at = (write + 1) % 32;
-    let slot = records.slots[at];
-    slot.soft
+    records.slots[at]
 }
 
 // The residual's power, smoothed; it normalizes the reliabilities.
@@ -75,22 +71,19 @@ fn recorded(now: Complex32, before: Complex32, noise: f32) -> Soft
 {
     let product = eighth_turned(multiplied_conjugate(now, before));
     let k = scale(now, before, noise);
-    let high = abs(product.imaginary) * k;
-    let low = abs(product.real) * k;
-    Soft::Recorded(product.imaginary < 0.0, product.real < 0.0, high, low)
+    Soft {
+        high_sign: product.imaginary < 0.0,
+        low_sign: product.real < 0.0,
+        high_reliability: abs(product.imaginary) * k,
+        low_reliability: abs(product.real) * k,
+    }
 }
 
 // A step's record: none where this observation or the one before is absent.
-pub fn record(now: Option<Complex32>, before: Option<Complex32>, noise: f32) -> Soft
+pub fn record(now: Option<Complex32>, before: Option<Complex32>, noise: f32) -> Option<Soft>
     ensures { result ≡ record_of now before noise }
 {
-    let Some(a) = now else {
-        return Soft::Unrecorded;
-    };
-    let Some(b) = before else {
-        return Soft::Unrecorded;
-    };
-    recorded(a, b, noise)
+    Some(recorded(now?, before?, noise))
 }
 
 // A reliability times 32 as a byte, cut at 0 and 255; a NaN gives 0.

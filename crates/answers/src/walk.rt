@@ -6,24 +6,20 @@ use super::PARENTS;
 use super::soft::{Soft, agreed};
 use channels::STATES;
 
-// The symbol that the walk before ended at.
+// A dibit's value, and the reliabilities of its higher and lower bit.
 #[derive(Clone, Copy)]
-pub enum Previous {
-    Unknown,
-    Symbol(usize),
+pub struct Dibit {
+    pub value: u8,
+    pub high: u8,
+    pub low: u8,
 }
 
-// A dibit, and the reliabilities of its higher and lower bit.
-#[derive(Clone, Copy)]
-pub enum Answer {
-    Silent,
-    Dibit(u8, u8, u8),
-}
-
+// The symbol that the walk ended at, or the one before if there was no walk, where there is one; and
+// the dibit, none while the step is silent.
 #[derive(Clone, Copy)]
 pub struct Walked {
-    pub previous: Previous,
-    pub answer: Answer,
+    pub previous: Option<usize>,
+    pub answer: Option<Dibit>,
 }
 
 // A step's parents, put in their row.
@@ -32,10 +28,8 @@ pub fn store(parents: &mut [u8; PARENTS], write: usize, row: &[u8; STATES])
     ensures { parents.new ≡ stored_of parents.old write row.now }
 {
     let from = 64 * write;
-    let mut s = 0;
-    while s < 64 {
+    for s in 0..64 {
         parents[from + s] = row[s];
-        s += 1;
     }
 }
 
@@ -45,17 +39,15 @@ fn state_before(parents: &[u8; PARENTS], newest: usize, best: usize) -> usize
     ensures { result ≡ state_before_of parents.now newest best }
 {
     let mut state = best;
-    let mut k = 0;
-    while k < 31 {
+    for k in 0..31 {
         let row = (newest + 32 - k) % 32;
         state = parents[64 * row + state] as usize;
-        k += 1;
     }
     state
 }
 
 // The dibit of a turn by so many quarters.
-fn dibit(quarters: usize) -> u8
+fn dibit_of(quarters: usize) -> u8
     requires { quarters < 4 }
     ensures { result ≡ dibit_of quarters }
 {
@@ -71,28 +63,36 @@ fn dibit(quarters: usize) -> u8
 }
 
 // A dibit with the reliabilities that its step's record gives.
-fn with_record(dibit: u8, soft: Soft) -> Answer
-    ensures { result ≡ with_record_of dibit soft }
+fn with_record(value: u8, soft: Option<Soft>) -> Dibit
+    ensures { result ≡ with_record_of value soft }
 {
-    let Soft::Recorded(high, low, a, b) = soft else {
-        return Answer::Dibit(dibit, 0, 0);
+    let Some(s) = soft else {
+        return Dibit {
+            value,
+            high: 0,
+            low: 0,
+        };
     };
-    Answer::Dibit(
-        dibit,
-        agreed(high, dibit / 2 % 2 == 1, a),
-        agreed(low, dibit % 2 == 1, b),
-    )
+    Dibit {
+        value,
+        high: agreed(s.high_sign, value / 2 % 2 == 1, s.high_reliability),
+        low: agreed(s.low_sign, value % 2 == 1, s.low_reliability),
+    }
 }
 
 // The first symbol of all has none before it to differ from.
-fn decided(current: usize, previous: Previous, soft: Soft) -> Answer
+fn decided(current: usize, previous: Option<usize>, soft: Option<Soft>) -> Dibit
     requires { (current < 4) × Earlier previous }
     ensures { result ≡ decided_of current previous soft }
 {
-    let Previous::Symbol(last) = previous else {
-        return Answer::Dibit(0, 0, 0);
+    let Some(last) = previous else {
+        return Dibit {
+            value: 0,
+            high: 0,
+            low: 0,
+        };
     };
-    with_record(dibit((current + 4 - last) % 4), soft)
+    with_record(dibit_of((current + 4 - last) % 4), soft)
 }
 
 // The answer of the step stored at `newest`, where `filled` steps before it are held.
@@ -101,8 +101,8 @@ pub fn walk(
     newest: usize,
     filled: usize,
     best: usize,
-    previous: Previous,
-    oldest: Soft,
+    previous: Option<usize>,
+    oldest: Option<Soft>,
 ) -> Walked
     requires { (newest < 32) × (best < 64) × Table parents.now × Earlier previous }
     ensures { result ≡ walked_of parents.now newest filled best previous oldest }
@@ -110,12 +110,12 @@ pub fn walk(
     if filled < 31 {
         return Walked {
             previous,
-            answer: Answer::Silent,
+            answer: None,
         };
     }
     let current = state_before(parents, newest, best) % 4;
     Walked {
-        previous: Previous::Symbol(current),
-        answer: decided(current, previous, oldest),
+        previous: Some(current),
+        answer: Some(decided(current, previous, oldest)),
     }
 }

@@ -7,7 +7,7 @@ ghost use Rattle.carrier.specs.Carrier.{fresh_place, admitted_of, rotation_of, t
 ghost use Rattle.carrier.specs.Carrier.{frequency_after_of, phase_after_of, error_after_of, is_locked, loop_after_of, carried_with};
 
 use answers::soft::Soft;
-use answers::walk::Answer;
+use answers::walk::Dibit;
 use complex::{Complex32, Complex64};
 use numbers::TURN;
 use numbers::compare::clamp;
@@ -39,8 +39,8 @@ pub struct CarrierPlace {
 #[derive(Clone, Copy)]
 pub struct Carried {
     pub place: CarrierPlace,
-    pub answer: Answer,
-    pub soft: Soft,
+    pub answer: Option<Dibit>,
+    pub soft: Option<Soft>,
     pub equalized: Option<Complex32>,
 }
 
@@ -63,9 +63,7 @@ pub fn fresh() -> CarrierPlace
 pub fn is_admitted(c: CarrierPlace) -> bool
     ensures { result ≡ admitted_of c }
 {
-    let turn = c.turn;
-    let detector = c.detector;
-    (turn.alternation <= 7) & sequence::admitted::is_admitted(detector)
+    (c.turn.alternation <= 7) & sequence::admitted::is_admitted(c.detector)
 }
 
 // The constellation turns by pi / 4 with each symbol.
@@ -154,14 +152,13 @@ pub fn carry(l: Loop, d: Detected, reliable: bool) -> Carried
     ensures { result ≡ carried_with l d reliable }
 {
     let turn = loop_after(l, d.phase, d.power, reliable);
-    let detector = d.place;
-    let answer = d.answer;
-    let soft = d.soft;
-    let equalized = d.equalized;
     Carried {
-        place: CarrierPlace { turn, detector },
-        answer,
-        soft,
-        equalized,
+        place: CarrierPlace {
+            turn,
+            detector: d.place,
+        },
+        answer: d.answer,
+        soft: d.soft,
+        equalized: d.equalized,
     }
 }

@@ -3,7 +3,7 @@ ghost use Rattle.lms_detector.specs.Ranges.{Ranged};
 
 use super::say::{number, text};
 use super::seeded::point;
-use answers::walk::Answer;
+use answers::walk::Dibit;
 use replay::next;
 use replay_detector::stored;
 use sequence::step::DetectorPlace;
@@ -44,11 +44,11 @@ fn with_other(t: Tally) -> Tally {
     }
 }
 
-fn tallied(t: Tally, answer: Answer) -> Tally {
+fn tallied(t: Tally, answer: Option<Dibit>) -> Tally {
     match answer {
-        Answer::Silent => with_silent(t),
-        Answer::Dibit(dibit, first, second) => {
-            if dibit == 0 && first == 0 && second == 0 {
+        None => with_silent(t),
+        Some(d) => {
+            if d.value == 0 && d.high == 0 && d.low == 0 {
                 with_zero(t)
             } else {
                 with_other(t)

@@ -1,10 +1,10 @@
 -- The later stages over a row of symbols, symbol by symbol: both streams decide, and what both answer is delivered. Definitions only.
-use Rattle.std.specs.Prelude.{◌≡◌, ℕ, Bool, true, false, List, get_or, set, Float}
+use Rattle.std.specs.Prelude.{◌≡◌, ℕ, Bool, true, false, List, get_or, set, Float, Option}
 use Rattle.laws.specs.Turns.{turns}
 use Rattle.complex.specs.declared.Complex32.{Complex32}
 use Rattle.complex.specs.Planes.{point_at}
-use Rattle.answers.specs.declared.soft.Slot.{Slot}
-use Rattle.answers.specs.Observed.{slot_of, record_before}
+use Rattle.answers.specs.declared.soft.Soft.{Soft}
+use Rattle.answers.specs.Observed.{record_before}
 use Rattle.answer_row.specs.AnswerRow.{is_dibit}
 use Rattle.recovery.specs.Recovery as Recovery
 use Rattle.decisions.specs.Decisions as Decisions
@@ -23,7 +23,7 @@ use Rattle.chain.specs.Ranges.{RoomyToo}
 -- what they have, with no row between them
 pub record Later : Type 0 where
   pub state : Decisions.DecisionsState
-  pub records : List Slot
+  pub records : List (Option Soft)
   pub second : SecondState
   pub delivery : Delivery.Lent
   pub other : Room
@@ -38,7 +38,7 @@ joined_lent r l = record { state = joined_of r l.state l.second l.delivery.place
 abbrev pub said_with : Later → Decisions.Step → Second.Step → Later
 said_with l first second = record {
   state = first.state;
-  records = set l.records (Decided.slot_at l.state) (slot_of first.soft);
+  records = set l.records (Decided.slot_at l.state) first.soft;
   second = second.state;
   delivery = Delivery.delivered_of l.delivery (paired_of first.answer (is_dibit second.answer)) (Decisions.locked_of first.state);
   other = noted_in l.delivery.place.profile l.other (paired_of second.answer (is_dibit first.answer));

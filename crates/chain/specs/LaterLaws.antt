@@ -6,7 +6,7 @@ use Prim.Native.Nat.{ℕ, zero, suc, ◌≤◌, ◌<◌}
 use Rattle.std.proofs.Math.Bool.{true}
 use Rattle.laws.specs.Turns.{turns}
 use Rattle.complex.specs.Planes.{point_at}
-use Rattle.answers.specs.Observed.{slot_of, record_before}
+use Rattle.answers.specs.Observed.{record_before}
 use Rattle.answer_row.specs.AnswerRow.{AnswerRow, is_dibit, put_of, Sized}
 use Rattle.decisions.specs.Decisions as Decisions
 use Rattle.decisions.specs.Rows as Decided
@@ -56,7 +56,7 @@ module _ (real imaginary : List Float) (reliable : List Bool) where
       (sym (DeliveryLaws.row_profile a.answers b.answers.flags n t)) in
       λ i. record {
         state = s.state;
-        records = set a.records (Decided.slot_at a.state) (slot_of s.soft);
+        records = set a.records (Decided.slot_at a.state) s.soft;
         second = o.state;
         delivery = first i;
         other = second i;

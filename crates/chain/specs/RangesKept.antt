@@ -6,7 +6,6 @@ use Rattle.peak.specs.Peak as Peak
 use Rattle.clock.proofs.Laws.{fresh_admitted}
 use Rattle.equalizer.specs.Equalizer as Equalizer
 use Rattle.complex.specs.Planes.{Planes}
-use Rattle.answers.specs.declared.soft.Soft.{Soft}
 use Rattle.sequence.specs.Sequence as Sequence
 use Rattle.lms_detector.specs.Ranges as Detector
 use Rattle.recovery.specs.declared.step.Found.{Found}
@@ -24,8 +23,9 @@ use Rattle.delivery.specs.Ranges as DeliveryRanges
 use Rattle.delivery.specs.Laws.{told_ranged}
 use Rattle.chain.specs.Chain.{fresh_place, ChainState, recovery_of, decisions_of, delivery_of, heard_of, stepped_of}
 use Rattle.chain.specs.Ranges.{Ranged}
+use Rattle.answers.specs.declared.soft.Soft.{Soft}
 
-heard_ranged : (f : Option Found) (r : Recovery.RecoveryState) (d : Decisions.DecisionsState) (s : SecondState) (p : DeliveryPlace) (oldest : Soft)
+heard_ranged : (f : Option Found) (r : Recovery.RecoveryState) (d : Decisions.DecisionsState) (s : SecondState) (p : DeliveryPlace) (oldest : Option Soft)
     → RecoveryRanges.Ranged r → DecisionsRanges.Ranged d → (s.enabled ≡ true → SecondRanges.Ranged s) → DeliveryRanges.Ranged p → Ranged (heard_of f r d s p oldest).state
 unfolding heard_of
 heard_ranged None r d s p oldest a b e c = record { recovery = a; decisions = b; second = e; delivery = c }
@@ -36,7 +36,7 @@ heard_ranged (Some found) r d s p oldest a b e c = record {
   delivery = told_ranged p _ _ c;
 }
 
-pub stepped_ranged : (taps derivatives : List Float) (s : ChainState) (z : Complex32) (oldest : Soft) → Ranged s → Ranged (stepped_of taps derivatives s z oldest).state
+pub stepped_ranged : (taps derivatives : List Float) (s : ChainState) (z : Complex32) (oldest : Option Soft) → Ranged s → Ranged (stepped_of taps derivatives s z oldest).state
 unfolding stepped_of
 stepped_ranged taps derivatives s z oldest h =
     let k = Recovery.stepped_of taps derivatives (recovery_of s) z in

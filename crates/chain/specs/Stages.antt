@@ -10,7 +10,7 @@ use Rattle.laws.specs.Turns.{turns, turns_step}
 use Rattle.laws.specs.Places.{upto, upto_more}
 use Rattle.complex.specs.declared.Complex32.{Complex32}
 use Rattle.complex.specs.Planes.{point_at}
-use Rattle.answers.specs.declared.soft.Slot.{Slot}
+use Rattle.answers.specs.declared.soft.Soft.{Soft}
 use Rattle.answers.specs.Observed.{record_before}
 use Rattle.recovery.specs.declared.step.Found.{Found}
 use Rattle.recovery.specs.Recovery as Recovery
@@ -113,10 +113,10 @@ module _ (taps derivatives : List Float) where
 
   -- ---- a row, value by value
   module _ (real imaginary : List Float) where
-    abbrev pub told_at : ChainState → List Slot → ℕ → Told
+    abbrev pub told_at : ChainState → List (Option Soft) → ℕ → Told
     told_at s records i = ran_of taps derivatives (values_of real imaginary i) (start s records)
 
-    told_more : (s : ChainState) (records : List Slot) (i : ℕ) → told_at s records (suc i) ≡ told taps derivatives (told_at s records i) (point_at (record { real = real; imaginary = imaginary }) i)
+    told_more : (s : ChainState) (records : List (Option Soft)) (i : ℕ) → told_at s records (suc i) ≡ told taps derivatives (told_at s records i) (point_at (record { real = real; imaginary = imaginary }) i)
     unfolding ran_of values_of
     told_more s records i =
         let e : suc i ≡ i + 1 = omega arith in
@@ -129,10 +129,10 @@ module _ (taps derivatives : List Float) where
         let f : l.other.written + 0 ≡ l.other.written = omega arith in
         rw (e, f)
 
-    told_pairs : (s : ChainState) (records : List Slot) (i : ℕ) → Ranged s → length (told_at s records i).reliabilities ≡ 2 * length (told_at s records i).dibits
+    told_pairs : (s : ChainState) (records : List (Option Soft)) (i : ℕ) → Ranged s → length (told_at s records i).reliabilities ≡ 2 * length (told_at s records i).dibits
     told_pairs s records i h = let p = (all_ran taps derivatives (values_of real imaginary i) (start s records) h).pairs in omega arith
 
-    other_pairs : (s : ChainState) (records : List Slot) (i : ℕ) → Ranged s → length (told_at s records i).other_reliabilities ≡ 2 * length (told_at s records i).others
+    other_pairs : (s : ChainState) (records : List (Option Soft)) (i : ℕ) → Ranged s → length (told_at s records i).other_reliabilities ≡ 2 * length (told_at s records i).others
     other_pairs s records i h = let p = (all_ran taps derivatives (values_of real imaginary i) (start s records) h).other_pairs in omega arith
 
     -- ---- THE LAW: a row of values recovered, and its symbols decided and delivered, is the row value by value

@@ -1,12 +1,12 @@
 -- The stage's definition met from what its parts answer, one law for each way out of a function, and the ranges that each step keeps. Assumes nothing.
-use Rattle.std.specs.Prelude.{◌≡◌, Bool, false, List, set, get_or, Float}
+use Rattle.std.specs.Prelude.{◌≡◌, Bool, false, List, set, get_or, Float, Option}
 use Rattle.std.proofs.Common.{ap, ◌∙◌, mod-lt, arith}
 use Prim.Native.Nat.{ℕ, zero, suc, ◌+◌, ◌≤◌}
 use Rattle.laws.specs.Turns.{turns, turns_start, turns_step}
 use Rattle.complex.specs.declared.Complex32.{Complex32}
 use Rattle.complex.specs.Planes.{point_at}
 use Rattle.answers.specs.declared.soft.Soft.{Soft}
-use Rattle.answers.specs.Observed.{slot_of, record_before}
+use Rattle.answers.specs.Observed.{record_before}
 use Rattle.answer_row.specs.AnswerRow.{AnswerRow, put_of}
 use Rattle.answer_row.specs.Laws.{put_sized}
 use Rattle.lms_carrier.specs.Carrier as Carrier
@@ -16,23 +16,23 @@ use Rattle.decisions.specs.Decisions.{DecisionsState, Step, decided_with, decide
 use Rattle.decisions.specs.Rows.{slot_at, Lent, linked_with, linked_of, row_turn, row_of}
 use Rattle.decisions.specs.Ranges.{Ranged, Asks}
 
-pub decided_is : (s : DecisionsState) (z : Complex32) (reliable : Bool) (oldest : Soft) (c : Carrier.CarrierStep) (v : Signal.View)
+pub decided_is : (s : DecisionsState) (z : Complex32) (reliable : Bool) (oldest : Option Soft) (c : Carrier.CarrierStep) (v : Signal.View)
     → c ≡ Carrier.carried_of s.place.carrier z reliable oldest s.channels s.costs s.parents
     → v ≡ Signal.pushed_of (Signal.view_of s.place.view s.view.real s.view.imaginary) c.carried.equalized
     → decided_with c v ≡ decided_of s z reliable oldest
 unfolding decided_of
 decided_is s z reliable oldest c v is_c is_v = rw (is_v, is_c)
 
-pub linked_is : (l : Lent) (k : ℕ) (z : Complex32) (reliable : Bool) (oldest : Soft) (s : Step) (answers : AnswerRow) → oldest ≡ record_before l.records (slot_at l.state)
+pub linked_is : (l : Lent) (k : ℕ) (z : Complex32) (reliable : Bool) (oldest : Option Soft) (s : Step) (answers : AnswerRow) → oldest ≡ record_before l.records (slot_at l.state)
     → s ≡ decided_of l.state z reliable oldest → answers ≡ put_of l.answers k s.answer (locked_of s.state)
-    → ◌≡◌ {A = Lent} (record { state = s.state; records = set l.records (slot_at l.state) (slot_of s.soft); answers = answers }) (linked_of l k z reliable)
+    → ◌≡◌ {A = Lent} (record { state = s.state; records = set l.records (slot_at l.state) s.soft; answers = answers }) (linked_of l k z reliable)
 unfolding linked_of
 linked_is l k z reliable oldest s answers o e q =
-    ap (λ (w : AnswerRow). record { state = s.state; records = set l.records (slot_at l.state) (slot_of s.soft); answers = w }) q
+    ap (λ (w : AnswerRow). record { state = s.state; records = set l.records (slot_at l.state) s.soft; answers = w }) q
     ∙ ap (linked_with l k) (e ∙ ap (decided_of l.state z reliable) o)
 
 -- ---- ranges
-pub decided_ranged : (s : DecisionsState) (z : Complex32) (reliable : Bool) (oldest : Soft) → Ranged s → Ranged (decided_of s z reliable oldest).state
+pub decided_ranged : (s : DecisionsState) (z : Complex32) (reliable : Bool) (oldest : Option Soft) → Ranged s → Ranged (decided_of s z reliable oldest).state
 unfolding decided_of Signal.pushed_of
 decided_ranged s z reliable oldest h = record {
   carrier = carried_ranged s.place.carrier z reliable oldest s.channels s.costs s.parents h.carrier;

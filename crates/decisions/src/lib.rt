@@ -59,8 +59,7 @@ pub fn decide(
         (λ b a. (a ≡ row_of symbol_real.now symbol_imaginary.now «reliable».now count b) × Asks a) }
 {
     let mut t = first;
-    let mut i = 0;
-    while i < count {
+    for i in 0..count {
         let symbol = Complex32 {
             real: symbol_real[i],
             imaginary: symbol_imaginary[i],
@@ -79,7 +78,6 @@ pub fn decide(
             flags,
             bytes,
         );
-        i += 1;
     }
     t
 }

@@ -8,7 +8,7 @@ use super::Decided;
 use super::step::step;
 use answer_row::{BYTES, FLAGS, put};
 use answers::PARENTS;
-use answers::soft::{Slot, oldest};
+use answers::soft::oldest;
 use channels::{CHANNELS, STATES};
 use complex::Complex32;
 use signal::POINTS;
@@ -33,14 +33,11 @@ pub fn link(
     ensures { LeavesRow t result channel_real channel_imaginary costs parents view_real view_imaginary flags bytes
         (λ b a. a ≡ linked_of b at symbol reliable) }
 {
-    let before = t.place;
     let mut records = t.records;
-    let carrier = before.carrier;
-    let detector = carrier.detector;
-    let slot = detector.write;
+    let slot = t.place.carrier.detector.write;
     let last = oldest(records, slot);
     let s = step(
-        before,
+        t.place,
         symbol,
         reliable,
         last,
@@ -51,12 +48,10 @@ pub fn link(
         view_real,
         view_imaginary,
     );
-    let place = s.place;
-    let soft = s.soft;
-    let answer = s.answer;
-    records.slots[slot] = Slot { soft };
-    let carrier_after = place.carrier;
-    let turn = carrier_after.turn;
-    put(at, answer, turn.locked, flags, bytes);
-    Decided { place, records }
+    records.slots[slot] = s.soft;
+    put(at, s.answer, s.place.carrier.turn.locked, flags, bytes);
+    Decided {
+        place: s.place,
+        records,
+    }
 }

@@ -7,7 +7,7 @@ ghost use Rattle.decisions.specs.Lends.{Given, Leaves};
 use super::DecisionsPlace;
 use answers::PARENTS;
 use answers::soft::Soft;
-use answers::walk::Answer;
+use answers::walk::Dibit;
 use channels::{CHANNELS, STATES};
 use complex::Complex32;
 use signal::{POINTS, push};
@@ -16,8 +16,8 @@ use signal::{POINTS, push};
 #[derive(Clone, Copy)]
 pub struct Stepped {
     pub place: DecisionsPlace,
-    pub soft: Soft,
-    pub answer: Answer,
+    pub soft: Option<Soft>,
+    pub answer: Option<Dibit>,
 }
 
 // One symbol: through carrier and detector, and what they make of it into the view. `oldest` is the
@@ -26,7 +26,7 @@ pub fn step(
     p: DecisionsPlace,
     symbol: Complex32,
     reliable: bool,
-    oldest: Soft,
+    oldest: Option<Soft>,
     channel_real: &mut [f32; CHANNELS],
     channel_imaginary: &mut [f32; CHANNELS],
     costs: &mut [f32; STATES],
@@ -38,10 +38,8 @@ pub fn step(
     ensures { Leaves p result.place channel_real channel_imaginary costs parents view_real view_imaginary
         (λ b a. ◌≡◌ {A = Step} (record { state = a; soft = result.soft; answer = result.answer }) (decided_of b symbol reliable oldest)) }
 {
-    let before = p.carrier;
-    let view = p.view;
     let c = lms_carrier::step(
-        before,
+        p.carrier,
         symbol,
         reliable,
         oldest,
@@ -50,17 +48,13 @@ pub fn step(
         costs,
         parents,
     );
-    let seen = c.equalized;
-    let view_after = push(view, seen, view_real, view_imaginary);
-    let carrier = c.place;
-    let soft = c.soft;
-    let answer = c.answer;
+    let view = push(p.view, c.equalized, view_real, view_imaginary);
     Stepped {
         place: DecisionsPlace {
-            carrier,
-            view: view_after,
+            carrier: c.place,
+            view,
         },
-        soft,
-        answer,
+        soft: c.soft,
+        answer: c.answer,
     }
 }

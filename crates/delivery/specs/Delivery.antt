@@ -1,18 +1,17 @@
 -- Delivery: what is delivered of an answer, and how it is laid into the room that the caller lends. Definitions only.
-use Rattle.std.specs.Prelude.{ℕ, ◌+◌, ◌*◌, Bool, true, cond, List, [], ◌∷◌, ℤ, length}
+use Rattle.std.specs.Prelude.{ℕ, ◌+◌, ◌*◌, Bool, true, cond, List, [], ◌∷◌, ℤ, length, Option, None, Some}
 use Rattle.std.proofs.lemmas.List.Edits.{sets}
-use Rattle.answers.specs.declared.walk.Answer.{Answer}
-use Rattle.answers.specs.declared.walk.Answer.TheVariants.{Silent, Dibit}
 use Rattle.labels.specs.Labels.{rearranges, labelled_of, counted_of}
 use Rattle.delivery.specs.declared.DeliveryPlace.{DeliveryPlace}
 use Rattle.delivery.specs.declared.step.Stepped.{Stepped}
+use Rattle.answers.specs.declared.walk.Dibit.{Dibit}
 
 -- an answer is delivered only where the other stream has one too
-abbrev pub paired_of : Answer → Bool → Answer
-paired_of answer other = cond other answer Silent
+abbrev pub paired_of : Option Dibit → Bool → Option Dibit
+paired_of answer other = cond other answer None
 
 -- a dibit is a symbol delivered, and one under lock where the carrier is locked after it
-unfoldable pub told_of : DeliveryPlace → Answer → Bool → Stepped
+unfoldable pub told_of : DeliveryPlace → Option Dibit → Bool → Stepped
 told_of p answer locked = record {
   place = record { profile = p.profile; symbols = counted_of p.symbols answer true; locked = counted_of p.locked answer locked };
   answer = labelled_of (rearranges p.profile) answer;
@@ -21,13 +20,13 @@ told_of p answer locked = record {
 -- ---- written
 
 -- a dibit, and the reliabilities of its higher and lower bit
-abbrev pub answer_dibits : Answer → List ℕ
-answer_dibits Silent = []
-answer_dibits (Dibit dibit high low) = dibit ∷ []
+abbrev pub answer_dibits : Option Dibit → List ℕ
+answer_dibits None = []
+answer_dibits (Some d) = d.value ∷ []
 
-abbrev pub answer_pair : Answer → List ℕ
-answer_pair Silent = []
-answer_pair (Dibit dibit high low) = high ∷ low ∷ []
+abbrev pub answer_pair : Option Dibit → List ℕ
+answer_pair None = []
+answer_pair (Some d) = d.high ∷ d.low ∷ []
 
 -- dibits and reliabilities as lent, and how many dibits are written
 pub record Room : Type 0 where
@@ -44,7 +43,7 @@ laid_in room ds rs = record {
 }
 
 -- an answer written as its profile labels it
-abbrev pub noted_in : ℤ → Room → Answer → Room
+abbrev pub noted_in : ℤ → Room → Option Dibit → Room
 noted_in profile room answer = let label = labelled_of (rearranges profile) answer in laid_in room (answer_dibits label) (answer_pair label)
 
 -- ---- one answer
@@ -57,5 +56,5 @@ pub record Lent : Type 0 where
 abbrev pub delivered_with : Room → Stepped → Lent
 delivered_with room s = record { place = s.place; room = laid_in room (answer_dibits s.answer) (answer_pair s.answer) }
 
-unfoldable pub delivered_of : Lent → Answer → Bool → Lent
+unfoldable pub delivered_of : Lent → Option Dibit → Bool → Lent
 delivered_of l answer locked = delivered_with l.room (told_of l.place answer locked)

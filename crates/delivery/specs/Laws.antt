@@ -1,5 +1,5 @@
 -- The stage's definition met from what its parts answer, one law for each way out of a function, what an answer adds, and the ranges that are kept. Assumes nothing.
-use Rattle.std.specs.Prelude.{◌≡◌, Bool, true, false, cond, List, [], ◌∷◌, ℤ, length, set}
+use Rattle.std.specs.Prelude.{◌≡◌, Bool, true, false, cond, List, [], ◌∷◌, ℤ, length, set, Option, None, Some}
 use Rattle.std.proofs.Math.Path.{refl, sym, ap, subst}
 use Rattle.std.proofs.Common.{◌∙◌, add-one}
 use Prim.Native.Nat.{ℕ, zero, suc, ◌+◌, ◌*◌, ◌≤◌, ◌<◌}
@@ -7,8 +7,6 @@ use native.Mathlib.Omega.{arith}
 use Rattle.std.proofs.lemmas.List.Edits.{sets}
 use Rattle.std.proofs.Math.Seq.{length-sets}
 use Rattle.laws.specs.Turns.{turns, turns_start, turns_step}
-use Rattle.answers.specs.declared.walk.Answer.{Answer}
-use Rattle.answers.specs.declared.walk.Answer.TheVariants.{Silent, Dibit}
 use Rattle.answer_row.specs.AnswerRow.{AnswerRow, answer_at, told_at, is_dibit, locked_at, put_of, Sized}
 use Rattle.answer_row.specs.Laws.{answer_put, told_put, locked_put, answer_kept, told_kept, locked_kept}
 use Rattle.labels.specs.Labels.{rearranges, labelled_of, counted_of}
@@ -18,8 +16,9 @@ use Rattle.delivery.specs.declared.step.Stepped.{Stepped}
 use Rattle.delivery.specs.Delivery.{paired_of, told_of, answer_dibits, answer_pair, Room, laid_in, noted_in, Lent, delivered_with, delivered_of}
 use Rattle.delivery.specs.Rows.{paired_at, row_turn, row_of, room_row}
 use Rattle.delivery.specs.Ranges.{Ranged, Asks}
+use Rattle.answers.specs.declared.walk.Dibit.{Dibit}
 
-pub told_is : (p : DeliveryPlace) (answer : Answer) (is_locked_lem : Bool) (symbols locked : ℕ) (rearranged : Bool) (label : Answer) (profile : ℤ)
+pub told_is : (p : DeliveryPlace) (answer : Option Dibit) (is_locked_lem : Bool) (symbols locked : ℕ) (rearranged : Bool) (label : Option Dibit) (profile : ℤ)
     → profile ≡ p.profile → symbols ≡ counted_of p.symbols answer true → locked ≡ counted_of p.locked answer is_locked_lem
     → rearranged ≡ rearranges profile → label ≡ labelled_of rearranged answer
     → ◌≡◌ {A = Stepped} (record { place = record { profile = profile; symbols = symbols; locked = locked }; answer = label }) (told_of p answer is_locked_lem)
@@ -27,60 +26,60 @@ unfolding told_of
 told_is p answer is_locked_lem symbols locked rearranged label profile q s l b e = rw (s, l, e, b, q)
 
 -- an answer beside itself is itself
-pub paired_self : (answer : Answer) → paired_of answer (is_dibit answer) ≡ answer
-paired_self Silent = refl
-paired_self (Dibit d h l) = refl
+pub paired_self : (answer : Option Dibit) → paired_of answer (is_dibit answer) ≡ answer
+paired_self None = refl
+paired_self (Some d) = refl
 
 -- ---- an answer written
-pub noted_silent : (room : Room) (a : Answer) → a ≡ Silent → room ≡ laid_in room (answer_dibits a) (answer_pair a)
+pub noted_silent : (room : Room) (a : Option Dibit) → a ≡ None → room ≡ laid_in room (answer_dibits a) (answer_pair a)
 noted_silent room a e = let n : room.written + 0 ≡ room.written = omega arith in rw (e, n)
 
-pub noted_dibit : (room : Room) (a : Answer) (d h l : ℕ) → a ≡ Dibit d h l
+pub noted_dibit : (room : Room) (a : Option Dibit) (d : Dibit) → a ≡ Some d
     → ◌≡◌ {A = Room}
     (record {
-      dibits = set room.dibits room.written d;
-      reliabilities = set (set room.reliabilities (2 * room.written) h) (2 * room.written + 1) l;
+      dibits = set room.dibits room.written d.value;
+      reliabilities = set (set room.reliabilities (2 * room.written) d.high) (2 * room.written + 1) d.low;
       written = room.written + 1;
     })
     (laid_in room (answer_dibits a) (answer_pair a))
-noted_dibit room a d h l e = rw (e, add-one)
+noted_dibit room a d e = rw (e, add-one)
 
-pub delivered_is : (l : Lent) (answer : Answer) (locked : Bool) (s : Stepped) (room : Room) → s ≡ told_of l.place answer locked → room ≡ laid_in l.room (answer_dibits s.answer) (answer_pair s.answer)
+pub delivered_is : (l : Lent) (answer : Option Dibit) (locked : Bool) (s : Stepped) (room : Room) → s ≡ told_of l.place answer locked → room ≡ laid_in l.room (answer_dibits s.answer) (answer_pair s.answer)
     → ◌≡◌ {A = Lent} (record { place = s.place; room = room }) (delivered_of l answer locked)
 unfolding delivered_of
 delivered_is l answer locked s room e q = ap (λ (w : Room). record { place = s.place; room = w }) q ∙ ap (delivered_with l.room) e
 
 -- ---- what an answer adds
-label_counts : (n : ℕ) (a : Answer) (rearranged : Bool) → counted_of n a true ≡ n + length (answer_dibits (labelled_of rearranged a))
-label_counts n Silent rearranged = omega arith
-label_counts n (Dibit d h l) true = refl
-label_counts n (Dibit d h l) false = refl
+label_counts : (n : ℕ) (a : Option Dibit) (rearranged : Bool) → counted_of n a true ≡ n + length (answer_dibits (labelled_of rearranged a))
+label_counts n None rearranged = omega arith
+label_counts n (Some d) true = refl
+label_counts n (Some d) false = refl
 
 -- symbols grows by the dibits that an answer gives
-pub told_counts : (p : DeliveryPlace) (answer : Answer) (locked : Bool) → (told_of p answer locked).place.symbols ≡ p.symbols + length (answer_dibits (told_of p answer locked).answer)
+pub told_counts : (p : DeliveryPlace) (answer : Option Dibit) (locked : Bool) → (told_of p answer locked).place.symbols ≡ p.symbols + length (answer_dibits (told_of p answer locked).answer)
 unfolding told_of
 told_counts p answer locked = label_counts p.symbols answer (rearranges p.profile)
 
 -- the profile is kept
-pub told_profile : (p : DeliveryPlace) (answer : Answer) (locked : Bool) → (told_of p answer locked).place.profile ≡ p.profile
+pub told_profile : (p : DeliveryPlace) (answer : Option Dibit) (locked : Bool) → (told_of p answer locked).place.profile ≡ p.profile
 unfolding told_of
 told_profile p answer locked = refl
 
-pub told_ranged : (p : DeliveryPlace) (answer : Answer) (locked : Bool) → Ranged p → Ranged (told_of p answer locked).place
+pub told_ranged : (p : DeliveryPlace) (answer : Option Dibit) (locked : Bool) → Ranged p → Ranged (told_of p answer locked).place
 unfolding told_of
 told_ranged p answer locked h = record { locked = count_within p.locked p.symbols answer locked h.locked }
 
 -- a dibit at most, and a pair of reliabilities with it
-pub one_most : (a : Answer) → length (answer_dibits a) ≤ 1
-one_most Silent = omega arith
-one_most (Dibit d h l) = omega arith
+pub one_most : (a : Option Dibit) → length (answer_dibits a) ≤ 1
+one_most None = omega arith
+one_most (Some d) = omega arith
 
-pub pair_each : (a : Answer) → length (answer_pair a) ≡ 2 * length (answer_dibits a)
-pair_each Silent = refl
-pair_each (Dibit d h l) = refl
+pub pair_each : (a : Option Dibit) → length (answer_pair a) ≡ 2 * length (answer_dibits a)
+pair_each None = refl
+pair_each (Some d) = refl
 
 -- ---- a row
-delivered_asks : (n : ℕ) (l : Lent) (answer : Answer) (locked : Bool) → Asks (suc n) l → Asks n (delivered_of l answer locked)
+delivered_asks : (n : ℕ) (l : Lent) (answer : Option Dibit) (locked : Bool) → Asks (suc n) l → Asks n (delivered_of l answer locked)
 unfolding delivered_of
 delivered_asks n l answer locked h =
     let s = told_of l.place answer locked in
@@ -106,12 +105,12 @@ module _ (row : AnswerRow) (others : List Bool) where
   unfolding row_of
   row_start b = turns_start _ _
 
-  pub row_step : (i : ℕ) (answer paired : Answer) (other locked : Bool) (b l m : Lent) → answer ≡ answer_at row i → other ≡ told_at others i → paired ≡ paired_of answer other
+  pub row_step : (i : ℕ) (answer paired : Option Dibit) (other locked : Bool) (b l m : Lent) → answer ≡ answer_at row i → other ≡ told_at others i → paired ≡ paired_of answer other
       → locked ≡ locked_at row.flags i → m ≡ delivered_of l paired locked → l ≡ row_of row others i b → m ≡ row_of row others (i + 1) b
   unfolding row_of
   row_step i answer paired other locked b l m a o p k e h =
       e
-      ∙ ap (λ (x : Answer). delivered_of l x locked) (p ∙ ap (λ (x : Answer). paired_of x other) a ∙ ap (paired_of (answer_at row i)) o)
+      ∙ ap (λ (x : Option Dibit). delivered_of l x locked) (p ∙ ap (λ (x : Option Dibit). paired_of x other) a ∙ ap (paired_of (answer_at row i)) o)
       ∙ ap (delivered_of l (paired_at row others i)) k
       ∙ turns_step (row_turn row others) i b l h
 
@@ -139,7 +138,7 @@ module _ (row : AnswerRow) (others : List Bool) where
       λ j. noted_in (p j) (r j) (paired_at row others n)
 
 -- ---- AN ANSWER PUT AFTER THOSE DELIVERED, and one into the other row, is delivered after them
-module _ (row other : AnswerRow) (k : ℕ) (answer : Answer) (locked : Bool) (reply : Answer) (second : Bool) where
+module _ (row other : AnswerRow) (k : ℕ) (answer : Option Dibit) (locked : Bool) (reply : Option Dibit) (second : Bool) where
   paired_kept : (n : ℕ) → n < k → paired_at (put_of row k answer locked) (put_of other k reply second).flags n ≡ paired_at row other.flags n
   paired_kept n h =
       let a = answer_kept row k answer locked n (λ e. omega arith) in
@@ -179,12 +178,12 @@ module _ (row other : AnswerRow) (k : ℕ) (answer : Answer) (locked : Bool) (re
   room_put profile room s t h = let p = paired_put s t h in λ j. noted_in profile (room_kept profile k room (omega arith) j) (p j)
 
 -- ---- BOTH STREAMS write as many: what one delivers at a place the other has too
-both_counted : (a b : Bool) (d h l : ℕ) (rearranged : Bool) → length (answer_dibits (labelled_of rearranged (paired_of (cond a (Dibit d h l) Silent) b))) ≡ cond a (cond b 1 0) 0
-both_counted true true d h l true = refl
-both_counted true true d h l false = refl
-both_counted true false d h l rearranged = refl
-both_counted false true d h l rearranged = refl
-both_counted false false d h l rearranged = refl
+both_counted : (a b : Bool) (d : Dibit) (rearranged : Bool) → length (answer_dibits (labelled_of rearranged (paired_of (cond a (Some d) None) b))) ≡ cond a (cond b 1 0) 0
+both_counted true true d true = refl
+both_counted true true d false = refl
+both_counted true false d rearranged = refl
+both_counted false true d rearranged = refl
+both_counted false false d rearranged = refl
 
 both_swapped : (a b : Bool) → ◌≡◌ {A = ℕ} (cond a (cond b 1 0) 0) (cond b (cond a 1 0) 0)
 both_swapped true true = refl
@@ -197,8 +196,8 @@ module _ (profile : ℤ) (row other : AnswerRow) where
       → length (answer_dibits (labelled_of (rearranges profile) (paired_at row other.flags k))) ≡ length (answer_dibits (labelled_of (rearranges profile) (paired_at other row.flags k)))
   unfolding answer_at
   as_many_at k =
-      both_counted (told_at row.flags k) (told_at other.flags k) _ _ _ (rearranges profile) ∙ both_swapped (told_at row.flags k) (told_at other.flags k)
-      ∙ sym (both_counted (told_at other.flags k) (told_at row.flags k) _ _ _ (rearranges profile))
+      both_counted (told_at row.flags k) (told_at other.flags k) _ (rearranges profile) ∙ both_swapped (told_at row.flags k) (told_at other.flags k)
+      ∙ sym (both_counted (told_at other.flags k) (told_at row.flags k) _ (rearranges profile))
 
   pub as_many : (n : ℕ) (a b : Room) → a.written ≡ b.written → (room_row profile row other.flags n a).written ≡ (room_row profile other row.flags n b).written
   unfolding room_row turns

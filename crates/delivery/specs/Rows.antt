@@ -1,12 +1,12 @@
 -- The third stage over a row of answers. Definitions only.
-use Rattle.std.specs.Prelude.{ℕ, Bool, List, ℤ}
+use Rattle.std.specs.Prelude.{ℕ, Bool, List, ℤ, Option}
 use Rattle.laws.specs.Turns.{turns}
-use Rattle.answers.specs.declared.walk.Answer.{Answer}
 use Rattle.answer_row.specs.AnswerRow.{AnswerRow, answer_at, told_at, locked_at}
 use Rattle.delivery.specs.Delivery.{paired_of, Room, noted_in, Lent, delivered_of}
+use Rattle.answers.specs.declared.walk.Dibit.{Dibit}
 
 -- the answer at a place of a row, where the other stream's row has one there too
-abbrev pub paired_at : AnswerRow → List Bool → ℕ → Answer
+abbrev pub paired_at : AnswerRow → List Bool → ℕ → Option Dibit
 paired_at row others k = paired_of (answer_at row k) (told_at others k)
 
 abbrev pub row_turn : AnswerRow → List Bool → ℕ → Lent → Lent

@@ -46,12 +46,10 @@ pub fn deliver(
         (λ b a. (a ≡ row_of (record { flags = flags.entry.now; bytes = bytes.now }) others.now count b) × Asks 0 a) }
 {
     let mut t = first;
-    let mut i = 0;
-    while i < count {
+    for i in 0..count {
         let answer = paired(answer_at(i, flags, bytes), is_told_at(i, others));
         let locked = is_locked_at(i, flags);
         t = step(t, answer, locked, dibits, reliabilities);
-        i += 1;
     }
     t
 }

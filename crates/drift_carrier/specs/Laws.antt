@@ -1,10 +1,9 @@
 -- The step from its parts, and the ranges that it keeps. Assumes nothing.
-use Rattle.std.specs.Prelude.{◌≡◌, ℕ, Bool, List, Float}
+use Rattle.std.specs.Prelude.{◌≡◌, ℕ, Bool, List, Float, Option}
 use Rattle.std.proofs.Math.Path.{ap}
 use Rattle.std.proofs.Common.{sym, ◌∙◌, subst}
 use Rattle.complex.specs.declared.Complex32.{Complex32}
 use Rattle.drift_tracker.specs.Drift.{Memory}
-use Rattle.answers.specs.declared.soft.Soft.{Soft}
 use Rattle.sequence.specs.Ranges as Sequence
 use Rattle.carrier.specs.declared.CarrierPlace.{CarrierPlace}
 use Rattle.carrier.specs.declared.Carried.{Carried}
@@ -14,9 +13,10 @@ use Rattle.drift_detector.specs.Detector as Detector
 use Rattle.drift_detector.specs.Laws.{detected_ranged}
 use Rattle.drift_carrier.specs.Carrier.{CarrierStep, carried_from, carried_of}
 use Rattle.drift_carrier.specs.Ranges.{RangedAfter}
+use Rattle.answers.specs.declared.soft.Soft.{Soft}
 
 -- ADMITTED IN, ADMITTED OUT: whatever the memory was, what the step leaves is whole
-pub carried_ranged : (c : CarrierPlace) (z : Complex32) (reliable : Bool) (oldest : Soft) (memory : Memory) (costs : List Float) (parents : List ℕ)
+pub carried_ranged : (c : CarrierPlace) (z : Complex32) (reliable : Bool) (oldest : Option Soft) (memory : Memory) (costs : List Float) (parents : List ℕ)
     → Sequence.Ranged c.detector costs parents → RangedAfter (carried_of c z reliable oldest memory costs parents)
 unfolding carried_of
 carried_ranged c z reliable oldest memory costs parents h = record {
@@ -24,7 +24,7 @@ carried_ranged c z reliable oldest memory costs parents h = record {
   detector = detected_ranged c.detector (corrected_of c.turn z) reliable oldest memory costs parents h;
 }
 
-pub step_meets : (c : CarrierPlace) (z input : Complex32) (reliable : Bool) (oldest : Soft) (memory : Memory) (costs : List Float) (parents : List ℕ) (d : Detector.DetectorStep) (r : Carried)
+pub step_meets : (c : CarrierPlace) (z input : Complex32) (reliable : Bool) (oldest : Option Soft) (memory : Memory) (costs : List Float) (parents : List ℕ) (d : Detector.DetectorStep) (r : Carried)
     → input ≡ corrected_of c.turn z → d ≡ Detector.detected_of c.detector input reliable oldest memory costs parents
     → r ≡ carried_with c.turn d.detected reliable
     → Sequence.Ranged c.detector costs parents

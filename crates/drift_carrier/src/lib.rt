@@ -22,7 +22,7 @@ pub fn step(
     c: CarrierPlace,
     sample: Complex32,
     reliable: bool,
-    oldest: Soft,
+    oldest: Option<Soft>,
     channel_real: &mut [f32; CHANNELS],
     channel_imaginary: &mut [f32; CHANNELS],
     drift: &mut [f32; DRIFTS],
@@ -35,11 +35,9 @@ pub fn step(
     ensures { Leaves result channel_real channel_imaginary drift inverse next costs parents
         (λ memory held table after. (after ≡ carried_of c sample reliable oldest memory held table) × RangedAfter after) }
 {
-    let before = c.turn;
-    let detector = c.detector;
-    let input = corrected(before, sample);
+    let input = corrected(c.turn, sample);
     let d = drift_detector::step(
-        detector,
+        c.detector,
         input,
         reliable,
         oldest,
@@ -51,5 +49,5 @@ pub fn step(
         costs,
         parents,
     );
-    carry(before, d, reliable)
+    carry(c.turn, d, reliable)
 }

@@ -1,17 +1,17 @@
 -- The detector with the second tracker: where the input is reliable the taps go on by their drift, then a step of the skeleton with the channels as they stand,
 -- and the memory that follows. Definitions only.
-use Rattle.std.specs.Prelude.{ℕ, Bool, cond, List, replicate, Float}
+use Rattle.std.specs.Prelude.{ℕ, Bool, cond, List, replicate, Float, Option}
 use Rattle.numbers.specs.Constants.{zero32}
 use Rattle.complex.specs.declared.Complex32.{Complex32}
 use Rattle.complex.specs.Planes.{Planes}
 use Rattle.least_squares.specs.Lanes.{inverses_of}
 use Rattle.least_squares.specs.LeastSquares.{prior_of}
 use Rattle.drift_tracker.specs.Drift.{Memory, advanced_of, followed_of}
-use Rattle.answers.specs.declared.soft.Soft.{Soft}
 use Rattle.sequence.specs.declared.step.DetectorPlace.{DetectorPlace}
 use Rattle.sequence.specs.declared.step.Detected.{Detected}
 use Rattle.sequence.specs.Sequence.{fresh_real, Stepped, stepped_of}
 use Rattle.sequence.specs.Tracked.{Tracker, Detector, fresh_with}
+use Rattle.answers.specs.declared.soft.Soft.{Soft}
 
 -- the channels that a step is made with
 unfoldable pub channels_for : Planes → List Float → Bool → Planes
@@ -36,7 +36,7 @@ detected_with input reliable ready s = record {
   parents = s.parents;
 }
 
-unfoldable pub detected_of : DetectorPlace → Complex32 → Bool → Soft → Memory → List Float → List ℕ → DetectorStep
+unfoldable pub detected_of : DetectorPlace → Complex32 → Bool → Option Soft → Memory → List Float → List ℕ → DetectorStep
 detected_of d input reliable oldest memory costs parents =
     detected_with input reliable (ready_of memory reliable) (stepped_of d input reliable oldest (ready_of memory reliable).channels costs parents)
 

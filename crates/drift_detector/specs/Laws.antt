@@ -1,5 +1,5 @@
 -- The step from its parts, and the ranges that it keeps. Assumes nothing.
-use Rattle.std.specs.Prelude.{◌≡◌, refl, ℕ, Bool, true, false, List, length, Float}
+use Rattle.std.specs.Prelude.{◌≡◌, refl, ℕ, Bool, true, false, List, length, Float, Option}
 use Rattle.std.proofs.Common.{ap, sym, ◌∙◌, subst}
 use Rattle.laws.specs.Branches.{cond_then, cond_no}
 use Rattle.laws.specs.Places.{length_upto}
@@ -8,13 +8,13 @@ use Rattle.complex.specs.Planes.{Planes}
 use Rattle.least_squares.specs.Lanes.{inverses_of}
 use Rattle.lane_sums.specs.LaneLaws.{pairs_length}
 use Rattle.drift_tracker.specs.Drift.{Memory, advanced_of, drifts_of, laid_out, followed_of}
-use Rattle.answers.specs.declared.soft.Soft.{Soft}
 use Rattle.sequence.specs.declared.step.DetectorPlace.{DetectorPlace}
 use Rattle.sequence.specs.Ranges as Sequence
 use Rattle.sequence.specs.Sequence.{Stepped, stepped_of}
 use Rattle.sequence.specs.Steps.{stepped_kept}
 use Rattle.drift_detector.specs.Detector.{channels_for, ready_of, DetectorStep, detected_with, detected_of}
 use Rattle.drift_detector.specs.Ranges.{Sized, RangedAfter}
+use Rattle.answers.specs.declared.soft.Soft.{Soft}
 
 -- the channels before the step
 pub ready_yes : (c : Planes) (drift : List Float) (reliable : Bool) (after : Planes) → reliable ≡ true → after ≡ advanced_of c drift → after ≡ channels_for c drift reliable
@@ -43,7 +43,7 @@ unfolding followed_of laid_out drifts_of inverses_of
 followed_sized m row predictions input reliable = record { real_size = length_upto _ 256; imaginary_size = length_upto _ 256; drift_size = pairs_length 256 _; inverse_size = pairs_length 4096 _ }
 
 -- ADMITTED IN, ADMITTED OUT
-pub detected_ranged : (d : DetectorPlace) (input : Complex32) (reliable : Bool) (oldest : Soft) (m : Memory) (costs : List Float) (parents : List ℕ)
+pub detected_ranged : (d : DetectorPlace) (input : Complex32) (reliable : Bool) (oldest : Option Soft) (m : Memory) (costs : List Float) (parents : List ℕ)
     → Sequence.Ranged d costs parents → RangedAfter (detected_of d input reliable oldest m costs parents)
 unfolding detected_of detected_with
 detected_ranged d input reliable oldest m costs parents h = record {
@@ -51,7 +51,7 @@ detected_ranged d input reliable oldest m costs parents h = record {
   memory = followed_sized (ready_of m reliable) _ _ input reliable;
 }
 
-pub step_meets : (d : DetectorPlace) (input : Complex32) (reliable : Bool) (oldest : Soft) (m : Memory) (costs : List Float) (parents : List ℕ) (c : Planes) (s : Stepped) (after : Memory)
+pub step_meets : (d : DetectorPlace) (input : Complex32) (reliable : Bool) (oldest : Option Soft) (m : Memory) (costs : List Float) (parents : List ℕ) (c : Planes) (s : Stepped) (after : Memory)
     → c ≡ channels_for m.channels m.drift reliable
     → s ≡ stepped_of d input reliable oldest c costs parents
     → after ≡ followed_of (record { channels = c; drift = m.drift; inverse = m.inverse }) s.row s.predictions input reliable

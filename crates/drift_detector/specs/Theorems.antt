@@ -1,6 +1,6 @@
 -- Theorems about the detector with the second tracker and any list of inputs, NaN included: each is the skeleton's, of the channels that the tracker makes.
 -- Assumes nothing.
-use Rattle.std.specs.Prelude.{◌≡◌, refl, ℕ, ◌%◌, ◌≤◌, ◌<◌, List, [], ◌∷◌, ◌++◌, length, get_or, replicate}
+use Rattle.std.specs.Prelude.{◌≡◌, refl, ℕ, ◌%◌, ◌≤◌, ◌<◌, List, [], ◌∷◌, ◌++◌, length, get_or, replicate, None, Some}
 use Rattle.std.proofs.lemmas.List.{length-replicate}
 use Rattle.std.specs.Float.{nan}
 use Rattle.laws.specs.Places.{length_upto}
@@ -11,8 +11,7 @@ use Rattle.trellis.specs.Costs.{c48}
 use Rattle.least_squares.specs.Lanes.{inverses_of}
 use Rattle.lane_sums.specs.LaneLaws.{pairs_length}
 use Rattle.drift_tracker.specs.Drift.{Memory}
-use Rattle.answers.specs.declared.walk.Answer.TheVariants.{Silent, Dibit}
-use Rattle.answers.specs.Walk.{decided_of}
+use Rattle.answers.specs.Walk.{zero_dibit, decided_of}
 use Rattle.sequence.specs.Sequence.{fresh_real}
 use Rattle.sequence.specs.Skeleton.{fresh_skeleton, oldest_of, put_of, made_by, made_at, history_of, traced}
 use Rattle.sequence.specs.Ranges as Sequence
@@ -72,12 +71,13 @@ fresh_ranged = record { skeleton = (Theorems.fresh_sound).ranged; memory = fresh
 -- once 31 steps are made the next is decided by the 31 newest steps' parents and by the record of 31 steps before
 pub answered : (d : Detector Memory) (is : List Input) (i : Input) → Sequence.Sound d.skeleton → 31 ≤ length is
     → answer_of drift_tracker (ran_of drift_tracker d is) i
-    ≡ decided_of
+    ≡ Some
+    (decided_of
     (traced
     (made_by (ran_of drift_tracker d is).skeleton (step_of drift_tracker (ran_of drift_tracker d is) i) ∷ history_of d.skeleton [] (steps_of drift_tracker d is)) 31
     (best_state (ran_of drift_tracker d is).skeleton (step_of drift_tracker (ran_of drift_tracker d is) i)) % 4)
     (ran_of drift_tracker d is).skeleton.place.previous
-    (made_at (history_of d.skeleton [] (steps_of drift_tracker d is)) 30).soft
+    (made_at (history_of d.skeleton [] (steps_of drift_tracker d is)) 30).soft)
 answered = Tracked.answered drift_tracker
 
 -- each cost stays within 0 to 48
@@ -86,15 +86,15 @@ costs_within = Tracked.costs_within drift_tracker fresh_memory
 
 -- steps 1 to 31 are silent, step 32 gives dibit 0 with [0, 0], and each later step one dibit
 module _ (is : List Input) (i : Input) where
-  pub first_silent : length is < 31 → answer_of drift_tracker (ran_of drift_tracker fresh_detector is) i ≡ Silent
+  pub first_silent : length is < 31 → answer_of drift_tracker (ran_of drift_tracker fresh_detector is) i ≡ None
   first_silent = Tracked.first_silent drift_tracker fresh_memory is i
 
-  pub then_zero : length is ≡ 31 → answer_of drift_tracker (ran_of drift_tracker fresh_detector is) i ≡ Dibit 0 0 0
+  pub then_zero : length is ≡ 31 → answer_of drift_tracker (ran_of drift_tracker fresh_detector is) i ≡ Some zero_dibit
   then_zero = Tracked.then_zero drift_tracker fresh_memory is i
 
   pub later_told : 32 ≤ length is → Told (answer_of drift_tracker (ran_of drift_tracker fresh_detector is) i)
   later_told = Tracked.later_told drift_tracker fresh_memory is i
 
 -- CASE 14: of 40 unreliable steps of a fresh detector 31 are silent, and then come nine of dibit 0 with [0, 0]
-pub case_14 : (is : List Input) → length is ≡ 40 → Unreliable is → answers_of drift_tracker fresh_detector is ≡ replicate 31 Silent ++ replicate 9 (Dibit 0 0 0)
+pub case_14 : (is : List Input) → length is ≡ 40 → Unreliable is → answers_of drift_tracker fresh_detector is ≡ replicate 31 None ++ replicate 9 (Some zero_dibit)
 case_14 = Tracked.case_14 drift_tracker fresh_memory

@@ -41,7 +41,7 @@ pub fn step(
     d: DetectorPlace,
     input: Complex32,
     reliable: bool,
-    oldest: Soft,
+    oldest: Option<Soft>,
     channel_real: &mut [f32; CHANNELS],
     channel_imaginary: &mut [f32; CHANNELS],
     drift: &mut [f32; DRIFTS],

@@ -1,10 +1,9 @@
 -- A label's ways out, and how far a count goes. Assumes nothing.
-use Rattle.std.specs.Prelude.{ℕ, suc, zero, ◌+◌, ◌≤◌, min, ◌≡◌, refl, Bool, true, false, ℤ, pos, negsuc}
+use Rattle.std.specs.Prelude.{ℕ, suc, zero, ◌+◌, ◌≤◌, min, ◌≡◌, refl, Bool, true, false, ℤ, pos, negsuc, Option, None, Some}
 use Rattle.std.proofs.Common.{arith, ap, SFits, of_z, to_z-of_z, ne_eqb}
 use Rattle.std.specs.Int.{w32}
-use Rattle.answers.specs.declared.walk.Answer.{Answer}
-use Rattle.answers.specs.declared.walk.Answer.TheVariants.{Silent, Dibit}
 use Rattle.labels.specs.Labels.{rearranges, relabelled_of, labelled_of, counted_of}
+use Rattle.answers.specs.declared.walk.Dibit.{Dibit}
 
 -- ---- the profile's number, by its bits
 pub profile_one : (p : ℤ) → SFits w32 p → of_z w32 p ≡ 1 → true ≡ rearranges p
@@ -18,14 +17,15 @@ pub profile_other : (p : ℤ) → (of_z w32 p ≡ 1 → ⊥) → false ≡ rearr
 profile_other p h = other p (λ e. h (ap (of_z w32) e))
 
 -- ---- a label's three ways
-pub label_silent : (b : Bool) (a : Answer) → a ≡ Silent → a ≡ labelled_of b a
+pub label_silent : (b : Bool) (a : Option Dibit) → a ≡ None → a ≡ labelled_of b a
 label_silent b a e = rw e
 
-module _ (b : Bool) (a : Answer) (d h l : ℕ) (is : a ≡ Dibit d h l) where
-  pub label_rearranged : (e m : ℕ) → b ≡ true → e ≡ relabelled_of d → m ≡ min h l → Dibit e l m ≡ labelled_of b a
+module _ (b : Bool) (a : Option Dibit) (d : Dibit) (is : a ≡ Some d) where
+  pub label_rearranged : (e m : ℕ) → b ≡ true → e ≡ relabelled_of d.value → m ≡ min d.high d.low
+      → ◌≡◌ {A = Option Dibit} (Some (record { value = e; high = d.low; low = m })) (labelled_of b a)
   label_rearranged e m t p q = rw (is, t, p, q)
 
-  pub label_kept : b ≡ false → Dibit d h l ≡ labelled_of b a
+  pub label_kept : b ≡ false → Some d ≡ labelled_of b a
   label_kept t = rw (is, t)
 
 -- ---- the dibit's label
@@ -37,27 +37,27 @@ relabel_other (suc (suc (suc zero))) a b c = refl
 relabel_other (suc (suc (suc (suc n)))) a b c = refl
 
 -- ---- a count
-pub count_silent : (n : ℕ) (a : Answer) (b : Bool) → a ≡ Silent → n ≡ counted_of n a b
+pub count_silent : (n : ℕ) (a : Option Dibit) (b : Bool) → a ≡ None → n ≡ counted_of n a b
 count_silent n a b e = rw e
 
-pub count_dibit : (n : ℕ) (a : Answer) (b : Bool) (d h l : ℕ) → a ≡ Dibit d h l → b ≡ true → n + 1 ≡ counted_of n a b
-count_dibit n a b d h l e t = rw (e, t)
+pub count_dibit : (n : ℕ) (a : Option Dibit) (b : Bool) (d : Dibit) → a ≡ Some d → b ≡ true → n + 1 ≡ counted_of n a b
+count_dibit n a b d e t = rw (e, t)
 
-pub count_kept : (n : ℕ) (a : Answer) (b : Bool) (d h l : ℕ) → a ≡ Dibit d h l → b ≡ false → n ≡ counted_of n a b
-count_kept n a b d h l e t = rw (e, t)
+pub count_kept : (n : ℕ) (a : Option Dibit) (b : Bool) (d : Dibit) → a ≡ Some d → b ≡ false → n ≡ counted_of n a b
+count_kept n a b d e t = rw (e, t)
 
 -- at most one more, and what counts under a condition stays within what always counts
-pub count_most : (n : ℕ) (a : Answer) (b : Bool) → counted_of n a b ≤ n + 1
-count_most n Silent b = omega arith
-count_most n (Dibit d h l) true = omega arith
-count_most n (Dibit d h l) false = omega arith
+pub count_most : (n : ℕ) (a : Option Dibit) (b : Bool) → counted_of n a b ≤ n + 1
+count_most n None b = omega arith
+count_most n (Some d) true = omega arith
+count_most n (Some d) false = omega arith
 
-pub count_least : (n : ℕ) (a : Answer) (b : Bool) → n ≤ counted_of n a b
-count_least n Silent b = omega arith
-count_least n (Dibit d h l) true = omega arith
-count_least n (Dibit d h l) false = omega arith
+pub count_least : (n : ℕ) (a : Option Dibit) (b : Bool) → n ≤ counted_of n a b
+count_least n None b = omega arith
+count_least n (Some d) true = omega arith
+count_least n (Some d) false = omega arith
 
-pub count_within : (m n : ℕ) (a : Answer) (b : Bool) → m ≤ n → counted_of m a b ≤ counted_of n a true
-count_within m n Silent b h = h
-count_within m n (Dibit d i l) true h = omega arith
-count_within m n (Dibit d i l) false h = omega arith
+pub count_within : (m n : ℕ) (a : Option Dibit) (b : Bool) → m ≤ n → counted_of m a b ≤ counted_of n a true
+count_within m n None b h = h
+count_within m n (Some d) true h = omega arith
+count_within m n (Some d) false h = omega arith

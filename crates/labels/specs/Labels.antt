@@ -1,7 +1,6 @@
 -- A dibit as its profile labels it, and what it adds to a count. Definitions only.
-use Rattle.std.specs.Prelude.{ℕ, ◌+◌, min, Bool, false, cond, [], ◌∷◌, eqb, ℤ, pos, negsuc, get_or}
-use Rattle.answers.specs.declared.walk.Answer.{Answer}
-use Rattle.answers.specs.declared.walk.Answer.TheVariants.{Silent, Dibit}
+use Rattle.std.specs.Prelude.{ℕ, ◌+◌, min, Bool, false, cond, [], ◌∷◌, eqb, ℤ, pos, negsuc, get_or, Option, None, Some}
+use Rattle.answers.specs.declared.walk.Dibit.{Dibit}
 
 -- profile 1; every other number acts as 0
 abbrev pub rearranges : ℤ → Bool
@@ -13,15 +12,15 @@ abbrev pub relabelled_of : ℕ → ℕ
 relabelled_of dibit = get_or (0 ∷ 3 ∷ 1 ∷ 2 ∷ []) dibit 2
 
 -- so the reliabilities are the old lower one, and the lesser of the two
-abbrev pub labelled_of : Bool → Answer → Answer
-labelled_of rearranged Silent = Silent
-labelled_of rearranged (Dibit dibit high low) = cond rearranged (Dibit (relabelled_of dibit) low (min high low)) (Dibit dibit high low)
+abbrev pub labelled_of : Bool → Option Dibit → Option Dibit
+labelled_of rearranged None = None
+labelled_of rearranged (Some d) = cond rearranged (Some (record { value = relabelled_of d.value; high = d.low; low = min d.high d.low })) (Some d)
 
 -- 2^53: as many dibits as 2^52 samples, the most that are taken, can give
 abbrev pub most_symbols : ℕ
 most_symbols = 9007199254740992
 
 -- a dibit is one more where it counts
-abbrev pub counted_of : ℕ → Answer → Bool → ℕ
-counted_of n Silent counts = n
-counted_of n (Dibit dibit high low) counts = cond counts (n + 1) n
+abbrev pub counted_of : ℕ → Option Dibit → Bool → ℕ
+counted_of n None counts = n
+counted_of n (Some d) counts = cond counts (n + 1) n

@@ -1,10 +1,10 @@
 // A dibit as its profile labels it, and what it adds to a count.
 #![tactic(auto)]
 
-ghost use Rattle.std.specs.Prelude.{◌≡◌, ◌<◌, min};
+ghost use Rattle.std.specs.Prelude.{◌≡◌, ◌<◌};
 ghost use Rattle.labels.specs.Labels.{rearranges, relabelled_of, labelled_of, most_symbols, counted_of};
 
-use answers::walk::Answer;
+use answers::walk::Dibit;
 
 // Whether a profile's labels are rearranged: those of profile 1 alone.
 pub fn is_rearranged(profile: i32) -> bool
@@ -28,32 +28,28 @@ fn relabelled(dibit: u8) -> u8
     }
 }
 
-fn least(a: u8, b: u8) -> u8
-    ensures { result ≡ min a b }
-{
-    if a < b { a } else { b }
-}
-
 // The reliabilities go with the bits: the combined one is as good as the worse of the two.
-pub fn labelled(rearranged: bool, answer: Answer) -> Answer
+pub fn labelled(rearranged: bool, answer: Option<Dibit>) -> Option<Dibit>
     ensures { result ≡ labelled_of rearranged answer }
 {
-    let Answer::Dibit(dibit, high, low) = answer else {
-        return answer;
-    };
+    let d = answer?;
     if rearranged {
-        return Answer::Dibit(relabelled(dibit), low, least(high, low));
+        return Some(Dibit {
+            value: relabelled(d.value),
+            high: d.low,
+            low: d.high.min(d.low),
+        });
     }
     answer
 }
 
 // One more for a dibit that counts.
-pub fn counted(count: u64, answer: Answer, counts: bool) -> u64
+pub fn counted(count: u64, answer: Option<Dibit>, counts: bool) -> u64
     requires { count < most_symbols }
     ensures { result ≡ counted_of count answer counts }
 {
-    let Answer::Dibit(_, _, _) = answer else {
+    if answer.is_none() {
         return count;
-    };
+    }
     if counts { count + 1 } else { count }
 }

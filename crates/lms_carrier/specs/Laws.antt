@@ -1,10 +1,9 @@
 -- The step from its parts, and the ranges that it keeps. Assumes nothing.
-use Rattle.std.specs.Prelude.{◌≡◌, ℕ, Bool, List, Float}
+use Rattle.std.specs.Prelude.{◌≡◌, ℕ, Bool, List, Float, Option}
 use Rattle.std.proofs.Math.Path.{ap}
 use Rattle.std.proofs.Common.{sym, ◌∙◌, subst}
 use Rattle.complex.specs.declared.Complex32.{Complex32}
 use Rattle.complex.specs.Planes.{Planes}
-use Rattle.answers.specs.declared.soft.Soft.{Soft}
 use Rattle.carrier.specs.declared.CarrierPlace.{CarrierPlace}
 use Rattle.carrier.specs.declared.Carried.{Carried}
 use Rattle.carrier.specs.Carrier.{corrected_of, carried_with}
@@ -13,9 +12,10 @@ use Rattle.lms_detector.specs.Detector as Detector
 use Rattle.lms_detector.specs.Laws.{detected_ranged}
 use Rattle.lms_carrier.specs.Carrier.{CarrierStep, carried_from, carried_of}
 use Rattle.lms_carrier.specs.Ranges.{Ranged, RangedAfter}
+use Rattle.answers.specs.declared.soft.Soft.{Soft}
 
 -- ADMITTED IN, ADMITTED OUT
-pub carried_ranged : (c : CarrierPlace) (z : Complex32) (reliable : Bool) (oldest : Soft) (channels : Planes) (costs : List Float) (parents : List ℕ)
+pub carried_ranged : (c : CarrierPlace) (z : Complex32) (reliable : Bool) (oldest : Option Soft) (channels : Planes) (costs : List Float) (parents : List ℕ)
     → Ranged c channels.real channels.imaginary costs parents → RangedAfter (carried_of c z reliable oldest channels costs parents)
 unfolding carried_of
 carried_ranged c z reliable oldest channels costs parents h = record {
@@ -23,7 +23,7 @@ carried_ranged c z reliable oldest channels costs parents h = record {
   detector = detected_ranged c.detector (corrected_of c.turn z) reliable oldest channels costs parents h.detector;
 }
 
-pub step_meets : (c : CarrierPlace) (z input : Complex32) (reliable : Bool) (oldest : Soft) (channels : Planes) (costs : List Float) (parents : List ℕ) (d : Detector.DetectorStep) (r : Carried)
+pub step_meets : (c : CarrierPlace) (z input : Complex32) (reliable : Bool) (oldest : Option Soft) (channels : Planes) (costs : List Float) (parents : List ℕ) (d : Detector.DetectorStep) (r : Carried)
     → input ≡ corrected_of c.turn z → d ≡ Detector.detected_of c.detector input reliable oldest channels costs parents
     → r ≡ carried_with c.turn d.detected reliable
     → Ranged c channels.real channels.imaginary costs parents

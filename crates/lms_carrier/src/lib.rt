@@ -19,7 +19,7 @@ pub fn step(
     c: CarrierPlace,
     sample: Complex32,
     reliable: bool,
-    oldest: Soft,
+    oldest: Option<Soft>,
     channel_real: &mut [f32; CHANNELS],
     channel_imaginary: &mut [f32; CHANNELS],
     costs: &mut [f32; STATES],
@@ -29,11 +29,9 @@ pub fn step(
     ensures { Leaves result channel_real channel_imaginary costs parents
         (λ channels held table after. (after ≡ carried_of c sample reliable oldest channels held table) × RangedAfter after) }
 {
-    let before = c.turn;
-    let detector = c.detector;
-    let input = corrected(before, sample);
+    let input = corrected(c.turn, sample);
     let d = lms_detector::step(
-        detector,
+        c.detector,
         input,
         reliable,
         oldest,
@@ -42,5 +40,5 @@ pub fn step(
         costs,
         parents,
     );
-    carry(before, d, reliable)
+    carry(c.turn, d, reliable)
 }

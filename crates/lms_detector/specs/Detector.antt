@@ -1,14 +1,14 @@
 -- The detector with the first tracker: a step of the skeleton with the channels as they stand, and the channels that follow. Definitions only.
-use Rattle.std.specs.Prelude.{ℕ, Bool, List, replicate, Float}
+use Rattle.std.specs.Prelude.{ℕ, Bool, List, replicate, Float, Option}
 use Rattle.numbers.specs.Constants.{zero32}
 use Rattle.complex.specs.declared.Complex32.{Complex32}
 use Rattle.complex.specs.Planes.{Planes}
 use Rattle.lms_tracker.specs.Tracker.{followed_of}
-use Rattle.answers.specs.declared.soft.Soft.{Soft}
 use Rattle.sequence.specs.declared.step.DetectorPlace.{DetectorPlace}
 use Rattle.sequence.specs.declared.step.Detected.{Detected}
 use Rattle.sequence.specs.Sequence.{fresh_real, Stepped, stepped_of}
 use Rattle.sequence.specs.Tracked.{Tracker, Detector, fresh_with}
+use Rattle.answers.specs.declared.soft.Soft.{Soft}
 
 -- what a step leaves
 pub record DetectorStep : Type 0 where
@@ -26,7 +26,7 @@ detected_with input reliable channels s = record {
   parents = s.parents;
 }
 
-unfoldable pub detected_of : DetectorPlace → Complex32 → Bool → Soft → Planes → List Float → List ℕ → DetectorStep
+unfoldable pub detected_of : DetectorPlace → Complex32 → Bool → Option Soft → Planes → List Float → List ℕ → DetectorStep
 detected_of d input reliable oldest channels costs parents = detected_with input reliable channels (stepped_of d input reliable oldest channels costs parents)
 
 -- ---- over many inputs

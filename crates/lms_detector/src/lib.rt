@@ -20,7 +20,7 @@ pub fn step(
     d: DetectorPlace,
     input: Complex32,
     reliable: bool,
-    oldest: Soft,
+    oldest: Option<Soft>,
     channel_real: &mut [f32; CHANNELS],
     channel_imaginary: &mut [f32; CHANNELS],
     costs: &mut [f32; STATES],

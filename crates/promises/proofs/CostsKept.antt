@@ -14,7 +14,6 @@ use Rattle.taps.specs.Taps.{both_tables}
 use Rattle.trellis.specs.Metric.{c0, nought}
 use Rattle.trellis.specs.Costs.{c48, Good}
 use Rattle.trellis.proofs.CostsLaws.{fresh_good, good_same}
-use Rattle.answers.specs.declared.soft.Soft.{Soft}
 use Rattle.lms_detector.specs.Detector as lms_detector
 use Rattle.sequence.specs.Theorems.{costs_stepped}
 use Rattle.carrier.specs.Carrier as carrier
@@ -22,6 +21,7 @@ use Rattle.lms_carrier.specs.Carrier as lms_carrier
 use Rattle.recovery.specs.declared.step.Found.{Found}
 use Rattle.recovery.specs.Recovery as recovery
 use Rattle.decisions.specs.Decisions as decisions
+use Rattle.answers.specs.declared.soft.Soft.{Soft}
 use Rattle.answers.specs.Observed.{record_before}
 use Rattle.drift_detector.specs.Detector as drift_detector
 use Rattle.drift_carrier.specs.Carrier as drift_carrier
@@ -51,14 +51,14 @@ abbrev GoodCosts : List Float → Type 0
 GoodCosts costs = Good (λ s. get_or costs s nan)
 
 -- ---- a value: the costs stay as they are, or the trellis takes a step
-heard_keeps : (f : Option Found) (r : recovery.RecoveryState) (d : decisions.DecisionsState) (s : SecondState) (p : DeliveryPlace) (oldest : Soft) → GoodCosts d.costs → GoodCosts (heard_of f r d s p oldest).state.costs
+heard_keeps : (f : Option Found) (r : recovery.RecoveryState) (d : decisions.DecisionsState) (s : SecondState) (p : DeliveryPlace) (oldest : Option Soft) → GoodCosts d.costs → GoodCosts (heard_of f r d s p oldest).state.costs
 unfolding heard_of decisions.decided_of lms_carrier.carried_of lms_detector.detected_of lms_detector.detected_with
 heard_keeps None r d s p oldest g = g
 heard_keeps (Some found) r d s p oldest g =
     costs_stepped d.place.carrier.detector (carrier.corrected_of d.place.carrier.turn found.symbol) found.reliable oldest d.channels d.costs d.parents g
 
 module _ (taps derivatives : List Float) where
-  step_keeps : (s : ChainState) (z : Complex32) (oldest : Soft) → GoodCosts s.costs → GoodCosts (stepped_of taps derivatives s z oldest).state.costs
+  step_keeps : (s : ChainState) (z : Complex32) (oldest : Option Soft) → GoodCosts s.costs → GoodCosts (stepped_of taps derivatives s z oldest).state.costs
   unfolding stepped_of
   step_keeps s z oldest g = let k = recovery.stepped_of taps derivatives (recovery_of s) z in heard_keeps k.found k.state (decisions_of s) s.second (delivery_of s.place) oldest g
 
@@ -100,7 +100,7 @@ pub costs_kept : (rate offset : Float) (profile : ℤ) (table : List Float) → 
 costs_kept rate offset profile table h cs s l = (calls_keep (setup_of rate offset profile table).receiver cs (setup_keeps rate offset profile table h)).ranged s l
 
 -- ---- THE SECOND STREAM'S COSTS, from enabling on
-heard_keeps_second : (f : Option Found) (r : recovery.RecoveryState) (d : decisions.DecisionsState) (s : SecondState) (p : DeliveryPlace) (oldest : Soft) → GoodCosts s.costs → GoodCosts (heard_of f r d s p oldest).state.second.costs
+heard_keeps_second : (f : Option Found) (r : recovery.RecoveryState) (d : decisions.DecisionsState) (s : SecondState) (p : DeliveryPlace) (oldest : Option Soft) → GoodCosts s.costs → GoodCosts (heard_of f r d s p oldest).state.second.costs
 heard_keeps_second None r d s p oldest g = unfold heard_of in g
 heard_keeps_second (Some found) r d s p oldest g = unfold heard_of in unfold other_of in go s.enabled
   where

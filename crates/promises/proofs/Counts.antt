@@ -10,8 +10,7 @@ use Rattle.std.proofs.lemmas.Bool.{eqb-false}
 use Rattle.complex.specs.declared.Complex32.{Complex32}
 use Rattle.taps.specs.Taps.{both_tables}
 use Rattle.answers.specs.declared.soft.Soft.{Soft}
-use Rattle.answers.specs.declared.walk.Answer.{Answer}
-use Rattle.answers.specs.declared.walk.Answer.TheVariants.{Silent, Dibit}
+use Rattle.answers.specs.declared.walk.Dibit.{Dibit}
 use Rattle.answers.specs.Observed.{record_before}
 use Rattle.lms_carrier.specs.Carrier as lms_carrier
 use Rattle.labels.specs.Labels.{rearranges, labelled_of, counted_of}
@@ -47,14 +46,14 @@ record Counting (s : ChainState) (n : Step) : Type 0 where
   symbols : n.state.place.symbols ≡ s.place.symbols + length (delivery_of n.outcome)
   locked : n.state.place.locked ≡ s.place.locked + length (locked_delivery n)
 
-answer_counts : (n : ℕ) (a : Answer) (counts rearranged : Bool) → counted_of n a counts ≡ n + length (cond counts (answer_delivery (labelled_of rearranged a)) [])
-answer_counts n Silent true rearranged = omega arith
-answer_counts n Silent false rearranged = omega arith
-answer_counts n (Dibit d h l) true true = refl
-answer_counts n (Dibit d h l) true false = refl
-answer_counts n (Dibit d h l) false rearranged = omega arith
+answer_counts : (n : ℕ) (a : Option Dibit) (counts rearranged : Bool) → counted_of n a counts ≡ n + length (cond counts (answer_delivery (labelled_of rearranged a)) [])
+answer_counts n None true rearranged = omega arith
+answer_counts n None false rearranged = omega arith
+answer_counts n (Some d) true true = refl
+answer_counts n (Some d) true false = refl
+answer_counts n (Some d) false rearranged = omega arith
 
-heard_counts : (f : Option Found) (s : ChainState) (r : recovery.RecoveryState) (oldest : Soft) → Counting s (heard_of f r (decisions_of s) s.second (chain.delivery_of s.place) oldest)
+heard_counts : (f : Option Found) (s : ChainState) (r : recovery.RecoveryState) (oldest : Option Soft) → Counting s (heard_of f r (decisions_of s) s.second (chain.delivery_of s.place) oldest)
 unfolding heard_of decisions.decided_of delivery.told_of
 heard_counts None s r oldest = record { symbols = omega arith; locked = none (is_locked (heard_of None r (decisions_of s) s.second (chain.delivery_of s.place) oldest)) s.place.locked }
   where
@@ -72,7 +71,7 @@ heard_counts (Some found) s r oldest =
 
 -- ---- values: the chain over them
 module _ (taps derivatives : List Float) where
-  step_counts : (s : ChainState) (z : Complex32) (oldest : Soft) → Counting s (stepped_of taps derivatives s z oldest)
+  step_counts : (s : ChainState) (z : Complex32) (oldest : Option Soft) → Counting s (stepped_of taps derivatives s z oldest)
   unfolding stepped_of
   step_counts s z oldest = let k = recovery.stepped_of taps derivatives (recovery_of s) z in heard_counts k.found s k.state oldest
 

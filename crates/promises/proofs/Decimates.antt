@@ -32,7 +32,6 @@ use Rattle.resampler.specs.Admitted.{Sized}
 use Rattle.resampler.specs.Ranges.{sized_in}
 use Rattle.front.specs.Front as front
 use Rattle.taps.specs.Taps.{both_tables}
-use Rattle.answers.specs.declared.soft.Slot.{Slot}
 use Rattle.chain.specs.Chain as chain
 use Rattle.chain.specs.Rows as rows
 use Rattle.chain.specs.RowLaws.{ran_profile}
@@ -49,6 +48,7 @@ use Rattle.receiver.specs.Block.{one, dibit_room, reliability_room, start_of, ac
 use Rattle.promises.specs.Tables.{setup_fresh}
 use Rattle.promises.specs.Small.{Small, small_counts}
 use Rattle.promises.specs.Taken.{Call, answered_of, taken_where, taken_of, rung_before, given_at, given_of, mixed_row}
+use Rattle.answers.specs.declared.soft.Soft.{Soft}
 
 -- ---- rows in turn
 abbrev oscillator_after : Oscillator → List Complex32 → Oscillator
@@ -120,7 +120,7 @@ module _ (conjugated : Bool) (table xs : List Float) (h : front.Run) where
       ∙ ap (outputs_of s) (sym (mixed_more k))
 
 -- ---- a chain keeps its profile
-chain_profile : (values : List Complex32) (t : chain.ChainState) (records : List Slot) (room other : rows.Room) → (rows.chain_of values t records room other).state.place.profile ≡ t.place.profile
+chain_profile : (values : List Complex32) (t : chain.ChainState) (records : List (Option Soft)) (room other : rows.Room) → (rows.chain_of values t records room other).state.place.profile ≡ t.place.profile
 unfolding rows.chain_of
 chain_profile values t records room other = ran_profile both_tables.taps both_tables.derivatives values (rows.start t records)
 

@@ -9,10 +9,8 @@ use Rattle.std.proofs.Math.ListN.{length, length-append}
 use Rattle.std.proofs.lemmas.List.Edits.{sets, sets-eq}
 use Rattle.complex.specs.declared.Complex32.{Complex32}
 use Rattle.taps.specs.Taps.{both_tables}
-use Rattle.answers.specs.declared.soft.Slot.{Slot}
 use Rattle.answers.specs.declared.soft.Soft.{Soft}
-use Rattle.answers.specs.declared.walk.Answer.{Answer}
-use Rattle.answers.specs.declared.walk.Answer.TheVariants.{Silent, Dibit}
+use Rattle.answers.specs.declared.walk.Dibit.{Dibit}
 use Rattle.answers.specs.Observed.{record_before}
 use Rattle.answer_row.specs.AnswerRow.{is_dibit}
 use Rattle.labels.specs.Labels.{rearranges, labelled_of}
@@ -57,21 +55,21 @@ bytes_append [] m = refl
 bytes_append (d ∷ l) m = ap (λ (k : List ℕ). d.high ∷ d.low ∷ k) (bytes_append l m)
 
 -- of an answer
-dibits_one : (a : Answer) → dibits_in (answer_delivery a) ≡ answer_dibits a
-dibits_one Silent = refl
-dibits_one (Dibit d h l) = refl
+dibits_one : (a : Option Dibit) → dibits_in (answer_delivery a) ≡ answer_dibits a
+dibits_one None = refl
+dibits_one (Some d) = refl
 
-bytes_one : (a : Answer) → bytes_in (answer_delivery a) ≡ answer_pair a
-bytes_one Silent = refl
-bytes_one (Dibit d h l) = refl
+bytes_one : (a : Option Dibit) → bytes_in (answer_delivery a) ≡ answer_pair a
+bytes_one None = refl
+bytes_one (Some d) = refl
 
 -- a pick gives one delivery at most
 abbrev pub AtMostOne : (Result → List Delivery) → Type 0
 AtMostOne pick = (o : Result) → length (pick o) ≤ 1
 
-answer_one : (a : Answer) → length (answer_delivery a) ≤ 1
-answer_one Silent = omega arith
-answer_one (Dibit d h l) = omega arith
+answer_one : (a : Option Dibit) → length (answer_delivery a) ≤ 1
+answer_one None = omega arith
+answer_one (Some d) = omega arith
 
 pub first_one : AtMostOne delivery_of
 first_one Quiet = omega arith
@@ -132,7 +130,7 @@ module _ (taps derivatives : List Float) where
       other_bytes_are (Heard soft answer other) = bytes_one other
 
   -- one a value at most
-  at_most_one_each : (pick : Result → List Delivery) → AtMostOne pick → (values : List Complex32) (s : ChainState) (records : List Slot) → length (delivered_by pick taps derivatives values s records) ≤ length values
+  at_most_one_each : (pick : Result → List Delivery) → AtMostOne pick → (values : List Complex32) (s : ChainState) (records : List (Option Soft)) → length (delivered_by pick taps derivatives values s records) ≤ length values
   unfolding delivered_by
   at_most_one_each pick single [] s records = omega arith
   at_most_one_each pick single (z ∷ values) s records =
@@ -142,27 +140,27 @@ module _ (taps derivatives : List Float) where
       simp length-append (omega arith)
 
   -- as many of the second stream as of the first: a dibit is delivered only where both answer
-  step_as_many : (s : ChainState) (records : List Slot) (z : Complex32) → length (other_delivery_of (next_of taps derivatives s records z).outcome) ≡ length (delivery_of (next_of taps derivatives s records z).outcome)
+  step_as_many : (s : ChainState) (records : List (Option Soft)) (z : Complex32) → length (other_delivery_of (next_of taps derivatives s records z).outcome) ≡ length (delivery_of (next_of taps derivatives s records z).outcome)
   unfolding stepped_of
   step_as_many s records z =
       let k = recovery.stepped_of taps derivatives (recovery_of s) z in
       heard k.found k.state (decisions_of s) s.second (chain.delivery_of s.place) (record_before records (slot_at s))
     where
-      labelled : (a b : Answer) (c : Bool) → length (answer_delivery (labelled_of c (paired_of b (is_dibit a)))) ≡ length (answer_delivery (labelled_of c (paired_of a (is_dibit b))))
-      labelled Silent Silent c = refl
-      labelled Silent (Dibit e i m) c = refl
-      labelled (Dibit d h l) Silent c = refl
-      labelled (Dibit d h l) (Dibit e i m) true = refl
-      labelled (Dibit d h l) (Dibit e i m) false = refl
+      labelled : (a b : Option Dibit) (c : Bool) → length (answer_delivery (labelled_of c (paired_of b (is_dibit a)))) ≡ length (answer_delivery (labelled_of c (paired_of a (is_dibit b))))
+      labelled None None c = refl
+      labelled None (Some e) c = refl
+      labelled (Some d) None c = refl
+      labelled (Some d) (Some e) true = refl
+      labelled (Some d) (Some e) false = refl
 
-      heard : (f : Option Found) (r : recovery.RecoveryState) (d : decisions.DecisionsState) (q : SecondState) (p : DeliveryPlace) (oldest : Soft)
+      heard : (f : Option Found) (r : recovery.RecoveryState) (d : decisions.DecisionsState) (q : SecondState) (p : DeliveryPlace) (oldest : Option Soft)
           → length (other_delivery_of (heard_of f r d q p oldest).outcome) ≡ length (delivery_of (heard_of f r d q p oldest).outcome)
       heard None r d q p oldest = unfold heard_of in refl
       heard (Some found) r d q p oldest =
           unfold heard_of in unfold delivery.told_of in
           (let first = decisions.decided_of d found.symbol found.reliable oldest in labelled first.answer (other_of q first.answer found.symbol found.reliable).answer (rearranges p.profile))
 
-  pub as_many : (values : List Complex32) (s : ChainState) (records : List Slot) → length (other_deliveries taps derivatives values s records) ≡ length (deliveries taps derivatives values s records)
+  pub as_many : (values : List Complex32) (s : ChainState) (records : List (Option Soft)) → length (other_deliveries taps derivatives values s records) ≡ length (deliveries taps derivatives values s records)
   unfolding delivered_by
   as_many [] s records = refl
   as_many (z ∷ values) s records =
@@ -173,7 +171,7 @@ module _ (taps derivatives : List Float) where
       ∙ sym (length-append (delivery_of n.outcome) (deliveries taps derivatives values n.state rest))
 
 -- THE LAW of the chain: what it leaves in each room is what that stream delivers, put there from the first place that is not written on
-module _ (values : List Complex32) (s : ChainState) (records : List Slot) (room other : Room) where
+module _ (values : List Complex32) (s : ChainState) (records : List (Option Soft)) (room other : Room) where
   pub chain_lays : (chain_of values s records room other).room
       ≡ laid_in room (dibits_in (deliveries both_tables.taps both_tables.derivatives values s records)) (bytes_in (deliveries both_tables.taps both_tables.derivatives values s records))
   unfolding chain_of

@@ -1,5 +1,5 @@
 -- Samples and then others are all of them together: for the checks, the front, the chain, and so for what a block delivers and the state that it returns. Assumes nothing.
-use Rattle.std.specs.Prelude.{◌≡◌, Bool, false, ◌&&◌, ◌||◌, length, get_or, Float}
+use Rattle.std.specs.Prelude.{◌≡◌, Bool, false, ◌&&◌, ◌||◌, length, get_or, Float, Option}
 use Rattle.std.proofs.Math.Path.{refl, sym, ap}
 use Rattle.std.proofs.Common.{◌∙◌, length-append, get_or-append-add}
 use Rattle.std.proofs.Math.Bool.{true, cond}
@@ -12,7 +12,6 @@ use Rattle.laws.specs.Turns.{turns}
 use Rattle.numbers.specs.Numbers.{is_finite}
 use Rattle.complex.specs.declared.Complex32.{Complex32}
 use Rattle.taps.specs.Taps.{both_tables}
-use Rattle.answers.specs.declared.soft.Slot.{Slot}
 use Rattle.front.specs.Front as front
 use Rattle.oscillator.specs.Oscillator.{conjugated_of}
 use Rattle.chain.specs.Chain.{ChainState, Outcome as Result}
@@ -24,6 +23,7 @@ use Rattle.run.specs.Run.{whole_run_of}
 use Rattle.receiver.specs.Block.{one, start_of, receiver_of}
 use Rattle.promises.specs.SecondKept.{SplitsBack}
 use Rattle.promises.specs.Deliveries.{Delivery, delivery_of, other_delivery_of, delivered_by, values_of, deliveries_of, other_deliveries_of, after_of}
+use Rattle.answers.specs.declared.soft.Soft.{Soft}
 
 -- ---- samples
 module _ (xs ys : List Float) (even : length xs ≡ 2 * count_of xs) where
@@ -117,10 +117,10 @@ module _ (conjugated : Bool) (table : List Float) where
 -- ---- the chain
 module _ (taps derivatives : List Float) where
   -- what was told before changes neither state nor records
-  abbrev telling : ChainState → List Slot → List ℕ → List ℕ → List ℕ → List ℕ → Told
+  abbrev telling : ChainState → List (Option Soft) → List ℕ → List ℕ → List ℕ → List ℕ → Told
   telling s records ds rs es qs = record { state = s; records = records; dibits = ds; reliabilities = rs; others = es; other_reliabilities = qs }
 
-  ran_alike : (values : List Complex32) (s : ChainState) (records : List Slot) (ds rs es qs : List ℕ)
+  ran_alike : (values : List Complex32) (s : ChainState) (records : List (Option Soft)) (ds rs es qs : List ℕ)
       → ((ran_of taps derivatives values (telling s records ds rs es qs)).state ≡ (ran_of taps derivatives values (start s records)).state)
       × ((ran_of taps derivatives values (telling s records ds rs es qs)).records ≡ (ran_of taps derivatives values (start s records)).records)
   unfolding ran_of told
@@ -143,7 +143,7 @@ module _ (taps derivatives : List Float) where
       ap (λ (l : List Delivery). pick n.outcome ++ l) (deliveries_append pick xs ys (told taps derivatives t z)) ∙ sym (append_assoc (pick n.outcome) _ _)
 
 -- ---- the block
-abbrev made : ℕ → front.Rung → ChainState → List Slot → Receiver
+abbrev made : ℕ → front.Rung → ChainState → List (Option Soft) → Receiver
 made total g s records = receiver_of total (record {
   rung = g;
   lent = record { state = s; records = records; room = record { dibits = []; reliabilities = []; written = 0 }; other = record { dibits = []; reliabilities = []; written = 0 } };

@@ -1,9 +1,8 @@
 -- Blocks called one after the other, each from the state that the one before it returned, refused ones among them: the state that they leave, the dibits that
 -- they deliver, and those of them that are delivered under lock. Definitions only.
-use Rattle.std.specs.Prelude.{Bool, cond, List, [], ◌∷◌, ◌++◌, ℕ, ◌+◌, eqb, Float}
+use Rattle.std.specs.Prelude.{Bool, cond, List, [], ◌∷◌, ◌++◌, ℕ, ◌+◌, eqb, Float, Option}
 use Rattle.complex.specs.declared.Complex32.{Complex32}
 use Rattle.taps.specs.Taps.{both_tables}
-use Rattle.answers.specs.declared.soft.Slot.{Slot}
 use Rattle.chain.specs.Chain.{ChainState, Step}
 use Rattle.chain.specs.Rows.{records_after, slot_at, next_of}
 use Rattle.receiver_state.specs.declared.state.Receiver.{Receiver}
@@ -11,6 +10,7 @@ use Rattle.receiver.specs.Block.{one, start_of}
 use Rattle.promises.specs.Deliveries.{Delivery, delivery_of, values_of}
 use Rattle.promises.specs.Compose.{delivered_dibits}
 use Rattle.promises.specs.Taken.{Call, answered_of}
+use Rattle.answers.specs.declared.soft.Soft.{Soft}
 
 -- the state that calls leave
 unfoldable pub state_after : Receiver → List Call → Receiver
@@ -38,7 +38,7 @@ abbrev pub locked_delivery : Step → List Delivery
 locked_delivery n = cond (is_locked n) (delivery_of n.outcome) []
 
 -- of the chain over values, one after the other
-unfoldable pub locked_deliveries : List Float → List Float → List Complex32 → ChainState → List Slot → List Delivery
+unfoldable pub locked_deliveries : List Float → List Float → List Complex32 → ChainState → List (Option Soft) → List Delivery
 locked_deliveries taps derivatives [] s records = []
 locked_deliveries taps derivatives (z ∷ values) s records =
     let n = next_of taps derivatives s records z in

@@ -1,13 +1,10 @@
 -- What a block delivers: a list that depends on the state, the table and the samples, and not on the rooms. An accepted block lays it at their start. What holds of it stands in proofs/.
-use Rattle.std.specs.Prelude.{ℕ, ◌+◌, ◌*◌, drop, Float}
+use Rattle.std.specs.Prelude.{ℕ, ◌+◌, ◌*◌, drop, Float, Option, None, Some}
 use mathlib.Core.List.{List, [], ◌∷◌, ◌++◌}
 use Rattle.std.proofs.Math.ListN.{length}
 use Rattle.std.proofs.lemmas.List.Edits.{sets}
 use Rattle.complex.specs.declared.Complex32.{Complex32}
 use Rattle.taps.specs.Taps.{both_tables}
-use Rattle.answers.specs.declared.soft.Slot.{Slot}
-use Rattle.answers.specs.declared.walk.Answer.{Answer}
-use Rattle.answers.specs.declared.walk.Answer.TheVariants.{Silent, Dibit}
 use Rattle.oscillator.specs.Oscillator.{conjugated_of}
 use Rattle.chain.specs.Chain as chain
 use Rattle.chain.specs.Chain.{ChainState, Outcome as Result, Quiet, Heard}
@@ -17,6 +14,8 @@ use Rattle.receiver_state.specs.State.{snapshot_of}
 use Rattle.samples.specs.Samples.{count_of, overload_of}
 use Rattle.run.specs.Run.{front_at, whole_run_of}
 use Rattle.receiver.specs.Block.{Rooms, one, start_of, receiver_of, Outcome}
+use Rattle.answers.specs.declared.soft.Soft.{Soft}
+use Rattle.answers.specs.declared.walk.Dibit.{Dibit}
 
 -- ---- the list
 
@@ -26,9 +25,9 @@ pub record Delivery : Type 0 where
   pub high : ℕ
   pub low : ℕ
 
-abbrev pub answer_delivery : Answer → List Delivery
-answer_delivery Silent = []
-answer_delivery (Dibit dibit high low) = record { dibit = dibit; high = high; low = low } ∷ []
+abbrev pub answer_delivery : Option Dibit → List Delivery
+answer_delivery None = []
+answer_delivery (Some d) = record { dibit = d.value; high = d.high; low = d.low } ∷ []
 
 -- what a value delivers of the first stream, and of the second
 abbrev pub delivery_of : Result → List Delivery
@@ -40,16 +39,16 @@ other_delivery_of Quiet = []
 other_delivery_of (Heard soft answer other) = answer_delivery other
 
 -- of the chain over values, one after the other
-unfoldable pub delivered_by : (Result → List Delivery) → List Float → List Float → List Complex32 → ChainState → List Slot → List Delivery
+unfoldable pub delivered_by : (Result → List Delivery) → List Float → List Float → List Complex32 → ChainState → List (Option Soft) → List Delivery
 delivered_by pick taps derivatives [] s records = []
 delivered_by pick taps derivatives (z ∷ values) s records =
     let n = next_of taps derivatives s records z in
     pick n.outcome ++ delivered_by pick taps derivatives values n.state (records_after n.outcome (slot_at s) records)
 
-abbrev pub deliveries : List Float → List Float → List Complex32 → ChainState → List Slot → List Delivery
+abbrev pub deliveries : List Float → List Float → List Complex32 → ChainState → List (Option Soft) → List Delivery
 deliveries = delivered_by delivery_of
 
-abbrev pub other_deliveries : List Float → List Float → List Complex32 → ChainState → List Slot → List Delivery
+abbrev pub other_deliveries : List Float → List Float → List Complex32 → ChainState → List (Option Soft) → List Delivery
 other_deliveries = delivered_by other_delivery_of
 
 abbrev pub dibits_in : List Delivery → List ℕ

@@ -4,7 +4,6 @@ use Rattle.std.proofs.Math.Path.{refl}
 use Rattle.std.proofs.Common.{sym, ◌∙◌, subst, arith, length-append}
 use mathlib.Core.List.{List, [], ◌∷◌}
 use Rattle.complex.specs.declared.Complex32.{Complex32}
-use Rattle.answers.specs.declared.soft.Soft.{Soft}
 use Rattle.recovery.specs.declared.step.Found.{Found}
 use Rattle.recovery.specs.Recovery as recovery
 use Rattle.decisions.specs.Decisions as decisions
@@ -18,19 +17,20 @@ use Rattle.chain.specs.Chain.{ChainState, recovery_of, decisions_of, delivery_of
 use Rattle.chain.specs.Rows.{Told, told, ran_of}
 use Rattle.chain.specs.Ranges.{Ranged}
 use Rattle.chain.specs.RowLaws.{all_ran, ran_off}
+use Rattle.answers.specs.declared.soft.Soft.{Soft}
 
 pub joined_length : (m : Memory) (costs : List Float) → length m.channels.real ≡ 256 → length m.channels.imaginary ≡ 256 → length m.drift ≡ 512 → length m.inverse ≡ 8192 → length costs ≡ 64
     → length (joined_of m costs) ≡ 9280
 unfolding joined_of
 joined_length m costs a b c d e = simp length-append (omega arith)
 
-heard_enabled : (f : Option Found) (r : recovery.RecoveryState) (d : decisions.DecisionsState) (s : SecondState) (p : DeliveryPlace) (oldest : Soft) → (heard_of f r d s p oldest).state.second.enabled ≡ s.enabled
+heard_enabled : (f : Option Found) (r : recovery.RecoveryState) (d : decisions.DecisionsState) (s : SecondState) (p : DeliveryPlace) (oldest : Option Soft) → (heard_of f r d s p oldest).state.second.enabled ≡ s.enabled
 unfolding heard_of
 heard_enabled None r d s p oldest = refl
 heard_enabled (Some found) r d s p oldest = other_enabled s _ found.symbol found.reliable
 
 module _ (taps derivatives : List Float) where
-  pub step_enabled : (s : ChainState) (z : Complex32) (oldest : Soft) → (stepped_of taps derivatives s z oldest).state.second.enabled ≡ s.second.enabled
+  pub step_enabled : (s : ChainState) (z : Complex32) (oldest : Option Soft) → (stepped_of taps derivatives s z oldest).state.second.enabled ≡ s.second.enabled
   unfolding stepped_of
   step_enabled s z oldest = let k = recovery.stepped_of taps derivatives (recovery_of s) z in heard_enabled k.found k.state (decisions_of s) s.second (delivery_of s.place) oldest
 

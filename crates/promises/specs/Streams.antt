@@ -8,12 +8,7 @@ use native.Mathlib.Omega.{arith}
 use Rattle.laws.specs.Ring.{lt_or_ge}
 use Rattle.complex.specs.declared.Complex32.{Complex32}
 use Rattle.answers.specs.declared.soft.Soft.{Soft}
-use Rattle.answers.specs.declared.soft.Soft.TheVariants.{Unrecorded, Recorded}
-use Rattle.answers.specs.declared.soft.Slot.{Slot}
-use Rattle.answers.specs.declared.walk.Answer.{Answer}
-use Rattle.answers.specs.declared.walk.Answer.TheVariants.{Silent, Dibit}
-use Rattle.answers.specs.declared.walk.Previous.{Previous}
-use Rattle.answers.specs.declared.walk.Previous.TheVariants.{Unknown, Symbol}
+use Rattle.answers.specs.declared.walk.Dibit.{Dibit}
 use Rattle.answers.specs.Walk as walk
 use Rattle.answers.specs.Observed.{record_before}
 use Rattle.answer_row.specs.AnswerRow.{is_dibit}
@@ -43,14 +38,14 @@ use Rattle.promises.specs.SecondKept.{step_enabled}
 use Rattle.promises.specs.Append.{deliveries_append}
 
 -- ---- BEFORE ENABLING both streams are the first one
-heard_one : (f : Option Found) (r : recovery.RecoveryState) (d : decisions.DecisionsState) (s : SecondState) (p : DeliveryPlace) (oldest : Soft) → s.enabled ≡ false
+heard_one : (f : Option Found) (r : recovery.RecoveryState) (d : decisions.DecisionsState) (s : SecondState) (p : DeliveryPlace) (oldest : Option Soft) → s.enabled ≡ false
     → other_delivery_of (heard_of f r d s p oldest).outcome ≡ delivery_of (heard_of f r d s p oldest).outcome
 unfolding heard_of other_of delivery.told_of
 heard_one None r d s p oldest off = refl
 heard_one (Some found) r d s p oldest off = rw off
 
 module _ (taps derivatives : List Float) where
-  pub one_before_enabling : (values : List Complex32) (s : ChainState) (records : List Slot) → s.second.enabled ≡ false → other_deliveries taps derivatives values s records ≡ deliveries taps derivatives values s records
+  pub one_before_enabling : (values : List Complex32) (s : ChainState) (records : List (Option Soft)) → s.second.enabled ≡ false → other_deliveries taps derivatives values s records ≡ deliveries taps derivatives values s records
   unfolding delivered_by stepped_of
   one_before_enabling [] s records off = refl
   one_before_enabling (z ∷ values) s records off =
@@ -86,7 +81,7 @@ module _ (s : SecondState) (z : Complex32) (reliable : Bool) where
 pub record Filling (n : ℕ) (s : SecondState) : Type 0 where
   pub enabled : s.enabled ≡ true
   pub filled : s.carrier.detector.filled ≡ n
-  pub previous : s.carrier.detector.previous ≡ Unknown
+  pub previous : s.carrier.detector.previous ≡ None
 
 -- 31 steps or more
 pub record Full (s : SecondState) : Type 0 where
@@ -99,13 +94,8 @@ one_more n l = rw (lt-ltb n 32 (omega arith))
 more_full : (n : ℕ) → 31 ≤ n → 31 ≤ one_more_of n
 more_full n l = ⊎_elim (λ b. subst (λ (k : ℕ). 31 ≤ k) (sym (ap (λ (t : Bool). cond t (n + 1) 32) (lt-ltb n 32 b))) (omega arith)) (λ g. subst (λ (k : ℕ). 31 ≤ k) (sym (ap (λ (t : Bool). cond t (n + 1) 32) (le-ltb n 32 g))) (omega arith)) (lt_or_ge n 32)
 
-decided_told : (current : ℕ) (previous : Previous) (soft : Soft) → is_dibit (walk.decided_of current previous soft) ≡ true
-decided_told current Unknown soft = refl
-decided_told current (Symbol last) Unrecorded = refl
-decided_told current (Symbol last) (Recorded a b c d) = refl
-
 module _ (s : SecondState) (z : Complex32) (reliable : Bool) where
-  fill_silent : (n : ℕ) → n < 31 → Filling n s → (second.decided_of s z reliable).answer ≡ Silent
+  fill_silent : (n : ℕ) → n < 31 → Filling n s → (second.decided_of s z reliable).answer ≡ None
   fill_silent n l h = let f = h.filled in answer_is s z reliable ∙ answer_short (skeleton_of s) (step_of s z reliable) (omega arith)
 
   fill_next : (n : ℕ) → n < 31 → Filling n s → Filling (n + 1) (second.decided_of s z reliable).state
@@ -118,14 +108,14 @@ module _ (s : SecondState) (z : Complex32) (reliable : Bool) where
         previous = ap (λ (d : DetectorPlace). d.previous) p ∙ previous_short (skeleton_of s) (step_of s z reliable) (omega arith) ∙ h.previous;
       }
 
-  fill_zero : Filling 31 s → (second.decided_of s z reliable).answer ≡ Dibit 0 0 0
+  fill_zero : Filling 31 s → (second.decided_of s z reliable).answer ≡ Some zero_dibit
   fill_zero h =
       let f = h.filled in
       answer_is s z reliable ∙ answer_long (skeleton_of s) (step_of s z reliable) (omega arith)
-      ∙ ap (λ (q : Previous). walk.decided_of (end_of (skeleton_of s) (step_of s z reliable) % 4) q (skeleton.oldest_of (skeleton_of s))) h.previous
+      ∙ ap (λ (q : Option ℕ). Some (walk.decided_of (end_of (skeleton_of s) (step_of s z reliable) % 4) q (skeleton.oldest_of (skeleton_of s)))) h.previous
 
   full_told : Full s → is_dibit (second.decided_of s z reliable).answer ≡ true
-  full_told h = ap is_dibit (answer_is s z reliable ∙ answer_long (skeleton_of s) (step_of s z reliable) h.filled) ∙ decided_told (end_of (skeleton_of s) (step_of s z reliable) % 4) s.carrier.detector.previous (skeleton.oldest_of (skeleton_of s))
+  full_told h = ap is_dibit (answer_is s z reliable ∙ answer_long (skeleton_of s) (step_of s z reliable) h.filled)
 
   full_next : Full s → Full (second.decided_of s z reliable).state
   full_next h = record {
@@ -134,7 +124,7 @@ module _ (s : SecondState) (z : Complex32) (reliable : Bool) where
   }
 
 -- enabled, the other answer is the second's
-other_second : (s : SecondState) (first : Answer) (z : Complex32) (reliable : Bool) → s.enabled ≡ true → other_of s first z reliable ≡ second.decided_of s z reliable
+other_second : (s : SecondState) (first : Option Dibit) (z : Complex32) (reliable : Bool) → s.enabled ≡ true → other_of s first z reliable ≡ second.decided_of s z reliable
 unfolding other_of
 other_second s first z reliable on = rw on
 
@@ -146,12 +136,12 @@ heard_by Quiet = 0
 heard_by (Heard soft answer other) = 1
 
 -- what is silent in one stream is silent in both
-none_first : (a : Answer) (b : Bool) → answer_delivery (labelled_of b (paired_of a (is_dibit Silent))) ≡ []
+none_first : (a : Option Dibit) (b : Bool) → answer_delivery (labelled_of b (paired_of a (is_dibit None))) ≡ []
 none_first a b = refl
 
-none_second : (a : Answer) (b : Bool) → answer_delivery (labelled_of b (paired_of Silent (is_dibit a))) ≡ []
-none_second Silent b = refl
-none_second (Dibit d h l) b = refl
+none_second : (a : Option Dibit) (b : Bool) → answer_delivery (labelled_of b (paired_of None (is_dibit a))) ≡ []
+none_second None b = refl
+none_second (Some d) b = refl
 
 -- what a value leaves while the second fills
 record Silence (n : ℕ) (o : Result) (s : SecondState) : Type 0 where
@@ -159,7 +149,7 @@ record Silence (n : ℕ) (o : Result) (s : SecondState) : Type 0 where
   other : other_delivery_of o ≡ []
   filling : Filling (n + heard_by o) s
 
-heard_silent : (f : Option Found) (r : recovery.RecoveryState) (d : decisions.DecisionsState) (s : SecondState) (p : DeliveryPlace) (oldest : Soft) (n : ℕ) → Filling n s → n + heard_by (heard_of f r d s p oldest).outcome ≤ 31
+heard_silent : (f : Option Found) (r : recovery.RecoveryState) (d : decisions.DecisionsState) (s : SecondState) (p : DeliveryPlace) (oldest : Option Soft) (n : ℕ) → Filling n s → n + heard_by (heard_of f r d s p oldest).outcome ≤ 31
     → Silence n (heard_of f r d s p oldest).outcome (heard_of f r d s p oldest).state.second
 unfolding heard_of delivery.told_of
 heard_silent None r d s p oldest n h m = record { first = refl; other = refl; filling = subst (λ (k : ℕ). Filling k s) (let e : n ≡ n + 0 = omega arith in e) h }
@@ -171,14 +161,14 @@ heard_silent (Some found) r d s p oldest n h m =
     let o = other_second s a z reliable h.enabled in
     let quiet = ap (λ (t : second.Step). t.answer) o ∙ fill_silent s z reliable n (omega arith) h in
     record {
-      first = ap (λ (x : Answer). answer_delivery (labelled_of b (paired_of a (is_dibit x)))) quiet;
-      other = ap (λ (x : Answer). answer_delivery (labelled_of b (paired_of x (is_dibit a)))) quiet ∙ none_second a b;
+      first = ap (λ (x : Option Dibit). answer_delivery (labelled_of b (paired_of a (is_dibit x)))) quiet;
+      other = ap (λ (x : Option Dibit). answer_delivery (labelled_of b (paired_of x (is_dibit a)))) quiet ∙ none_second a b;
       filling = subst (Filling (n + 1)) (sym (ap (λ (t : second.Step). t.state) o)) (fill_next s z reliable n (omega arith) h);
     }
 
 module _ (taps derivatives : List Float) where
   -- the symbols of values
-  unfoldable pub heard_in : List Complex32 → ChainState → List Slot → ℕ
+  unfoldable pub heard_in : List Complex32 → ChainState → List (Option Soft) → ℕ
   heard_in [] s records = 0
   heard_in (z ∷ values) s records = let n = next_of taps derivatives s records z in heard_by n.outcome + heard_in values n.state (records_after n.outcome (slot_at s) records)
 
@@ -217,12 +207,12 @@ zero_delivery = record { dibit = 0; high = 0; low = 0 } ∷ []
 abbrev pub first_alone : DeliveryPlace → decisions.Step → List Delivery
 first_alone p d = answer_delivery (labelled_of (rearranges p.profile) d.answer)
 
-zero_beside : (a : Answer) (b : Bool) → answer_delivery (labelled_of b (paired_of (Dibit 0 0 0) (is_dibit a))) ≡ cond (is_dibit a) zero_delivery []
-zero_beside Silent b = refl
-zero_beside (Dibit d h l) true = refl
-zero_beside (Dibit d h l) false = refl
+zero_beside : (a : Option Dibit) (b : Bool) → answer_delivery (labelled_of b (paired_of (Some zero_dibit) (is_dibit a))) ≡ cond (is_dibit a) zero_delivery []
+zero_beside None b = refl
+zero_beside (Some d) true = refl
+zero_beside (Some d) false = refl
 
-module _ (r : recovery.RecoveryState) (d : decisions.DecisionsState) (s : SecondState) (p : DeliveryPlace) (oldest : Soft) (z : Complex32) (reliable : Bool) where
+module _ (r : recovery.RecoveryState) (d : decisions.DecisionsState) (s : SecondState) (p : DeliveryPlace) (oldest : Option Soft) (z : Complex32) (reliable : Bool) where
   abbrev here : chain.Step
   here = heard_of (Some (record { symbol = z; reliable = reliable })) r d s p oldest
 
@@ -234,8 +224,8 @@ module _ (r : recovery.RecoveryState) (d : decisions.DecisionsState) (s : Second
   thirty_second h =
       let b = rearranges p.profile in
       let zero = ap (λ (t : second.Step). t.answer) (other_second s first.answer z reliable h.enabled) ∙ fill_zero s z reliable h in (
-        ap (λ (x : Answer). answer_delivery (labelled_of b (paired_of first.answer (is_dibit x)))) zero,
-        ap (λ (x : Answer). answer_delivery (labelled_of b (paired_of x (is_dibit first.answer)))) zero ∙ zero_beside first.answer b,
+        ap (λ (x : Option Dibit). answer_delivery (labelled_of b (paired_of first.answer (is_dibit x)))) zero,
+        ap (λ (x : Option Dibit). answer_delivery (labelled_of b (paired_of x (is_dibit first.answer)))) zero ∙ zero_beside first.answer b,
       )
 
   -- and so of the first stream at every later symbol
@@ -247,7 +237,7 @@ module _ (r : recovery.RecoveryState) (d : decisions.DecisionsState) (s : Second
 
   pub first_off : s.enabled ≡ false → delivery_of here.outcome ≡ first_alone p first
   unfolding heard_of delivery.told_of other_of
-  first_off off = rw off (ap (λ (x : Answer). answer_delivery (labelled_of (rearranges p.profile) x)) (paired_self first.answer))
+  first_off off = rw off (ap (λ (x : Option Dibit). answer_delivery (labelled_of (rearranges p.profile) x)) (paired_self first.answer))
 
   here_full : Full s → Full here.state.second
   unfolding heard_of
@@ -264,17 +254,17 @@ pub record SameFirst (a b : ChainState) : Type 0 where
 -- what a value leaves of both
 record Alike (a b : chain.Step) (at : ℕ) : Type 0 where
   state : SameFirst a.state b.state
-  records : (slots : List Slot) → records_after a.outcome at slots ≡ records_after b.outcome at slots
+  records : (slots : List (Option Soft)) → records_after a.outcome at slots ≡ records_after b.outcome at slots
   heard : heard_by a.outcome ≡ heard_by b.outcome
 
-heard_alike : (f : Option Found) (r : recovery.RecoveryState) (d : decisions.DecisionsState) (s q : SecondState) (p o : DeliveryPlace) (oldest : Soft) (at : ℕ) → p.profile ≡ o.profile
+heard_alike : (f : Option Found) (r : recovery.RecoveryState) (d : decisions.DecisionsState) (s q : SecondState) (p o : DeliveryPlace) (oldest : Option Soft) (at : ℕ) → p.profile ≡ o.profile
     → Alike (heard_of f r d s p oldest) (heard_of f r d q o oldest) at
 unfolding heard_of delivery.told_of
 heard_alike None r d s q p o oldest at e = record { state = record { recovery = refl; decisions = refl; profile = e }; records = λ slots. refl; heard = refl }
 heard_alike (Some found) r d s q p o oldest at e = record { state = record { recovery = refl; decisions = refl; profile = e }; records = λ slots. refl; heard = refl }
 
 -- the delivery of the first stream does not depend on a second that answers, or on one that is not enabled
-heard_first : (f : Option Found) (r : recovery.RecoveryState) (d : decisions.DecisionsState) (s q : SecondState) (p o : DeliveryPlace) (oldest : Soft) → p.profile ≡ o.profile → Full s → q.enabled ≡ false
+heard_first : (f : Option Found) (r : recovery.RecoveryState) (d : decisions.DecisionsState) (s q : SecondState) (p o : DeliveryPlace) (oldest : Option Soft) → p.profile ≡ o.profile → Full s → q.enabled ≡ false
     → (delivery_of (heard_of f r d s p oldest).outcome ≡ delivery_of (heard_of f r d q o oldest).outcome) × Full (heard_of f r d s p oldest).state.second
 heard_first None r d s q p o oldest e h off = unfold heard_of in (refl, h)
 heard_first (Some found) r d s q p o oldest e h off = (
@@ -286,10 +276,10 @@ heard_first (Some found) r d s q p o oldest e h off = (
 
 module _ (taps derivatives : List Float) where
   -- the chain's step from its stages
-  abbrev step_from : SecondState → DeliveryPlace → List Slot → Complex32 → recovery.RecoveryState → decisions.DecisionsState → chain.Step
+  abbrev step_from : SecondState → DeliveryPlace → List (Option Soft) → Complex32 → recovery.RecoveryState → decisions.DecisionsState → chain.Step
   step_from s p records z x y = let k = recovery.stepped_of taps derivatives x z in heard_of k.found k.state y s p (record_before records y.place.carrier.detector.write)
 
-  module _ (a b : ChainState) (records : List Slot) (z : Complex32) (h : SameFirst a b) where
+  module _ (a b : ChainState) (records : List (Option Soft)) (z : Complex32) (h : SameFirst a b) where
     abbrev found : recovery.Step
     found = recovery.stepped_of taps derivatives (recovery_of b) z
 
@@ -319,7 +309,7 @@ module _ (taps derivatives : List Float) where
     same_records = ap (λ (k : ℕ). records_after (next_of taps derivatives a records z).outcome k records) same_slot ∙ next_alike.records records
 
   -- once the second answers the first stream is as without it
-  pub first_unchanged : (values : List Complex32) (a b : ChainState) (records : List Slot) → SameFirst a b → Full a.second → b.second.enabled ≡ false
+  pub first_unchanged : (values : List Complex32) (a b : ChainState) (records : List (Option Soft)) → SameFirst a b → Full a.second → b.second.enabled ≡ false
       → deliveries taps derivatives values a records ≡ deliveries taps derivatives values b records
   unfolding delivered_by
   first_unchanged [] a b records h full off = refl
@@ -344,7 +334,7 @@ module _ (taps derivatives : List Float) where
   ran_same (z ∷ values) t u h =
       let r = u.records in
       let e = h.records in
-      let a = subst (λ (l : List Slot). Alike (next_of taps derivatives t.state l z) (next_of taps derivatives u.state r z) (slot_at u.state)) (sym e) (next_alike t.state u.state r z h.state) in
+      let a = subst (λ (l : List (Option Soft)). Alike (next_of taps derivatives t.state l z) (next_of taps derivatives u.state r z) (slot_at u.state)) (sym e) (next_alike t.state u.state r z h.state) in
       ran_same values (told taps derivatives t z) (told taps derivatives u z) (record {
         state = a.state;
         records = (λ i. records_after (next_of taps derivatives t.state (e i) z).outcome (slot_at t.state) (e i)) ∙ same_records t.state u.state r z h.state;

@@ -13,9 +13,7 @@ use Rattle.resampler.specs.Dimensions as resampler
 use Rattle.equalizer.specs.Equalizer as equalizer
 use Rattle.sequence.specs.Sequence as sequence
 use Rattle.chain.specs.Chain as chain
-use Rattle.answers.specs.declared.soft.Soft.TheVariants.{Unrecorded}
 use Rattle.answers.specs.declared.soft.Records.{Records}
-use Rattle.answers.specs.declared.walk.Previous.TheVariants.{Unknown}
 use Rattle.carrier.specs.declared.CarrierPlace.{CarrierPlace}
 use Rattle.second.specs.declared.Second.{Second}
 use Rattle.front.specs.declared.FrontPlace.{FrontPlace}
@@ -50,7 +48,7 @@ zero_front = record {
 unfoldable pub zero_carrier : CarrierPlace
 zero_carrier = record {
   turn = record { phase = zero64; frequency = zero64; alternation = 0; locked = false; error = zero64 };
-  detector = record { write = 0; filled = 0; previous = Unknown; combined = None; noise = zero32 };
+  detector = record { write = 0; filled = 0; previous = None; combined = None; noise = zero32 };
 }
 
 unfoldable pub zero_chain : ChainPlace
@@ -65,7 +63,7 @@ zero_chain = record {
 }
 
 abbrev pub no_records : Records
-no_records = record { slots = replicate 32 (record { soft = Unrecorded }) }
+no_records = record { slots = replicate 32 None }
 
 -- the second tracker as long as it is not enabled
 unfoldable pub zero_second : Second

@@ -2,8 +2,7 @@
 ghost use Rattle.std.specs.Prelude.{◌≡◌};
 ghost use Rattle.receiver_state.specs.State.{fresh_receiver, zero_front, zero_carrier, zero_chain, zero_second, zero_receiver, zero_snapshot, flag_of, snapshot_of};
 
-use answers::soft::{Records, Slot, Soft};
-use answers::walk::Previous;
+use answers::soft::Records;
 use answers::{PARENTS, STEPS};
 use carrier::{CarrierPlace, Loop};
 use chain::{ChainPlace, ChainPlanes, DecisionsPlanes, RecoveryPlanes};
@@ -85,7 +84,7 @@ fn zero_carrier() -> CarrierPlace
     let detector = DetectorPlace {
         write: 0,
         filled: 0,
-        previous: Previous::Unknown,
+        previous: None,
         combined: None,
         noise: 0.0,
     };
@@ -120,14 +119,11 @@ fn zero_second() -> Second
     ensures { result ≡ zero_second }
 {
     let carrier = zero_carrier();
-    let slot = Slot {
-        soft: Soft::Unrecorded,
-    };
     Second {
         enabled: false,
         carrier,
         records: Records {
-            slots: [slot; STEPS],
+            slots: [None; STEPS],
         },
     }
 }
@@ -136,15 +132,12 @@ fn zero_second() -> Second
 pub fn zero() -> Receiver
     ensures { result ≡ zero_receiver }
 {
-    let slot = Slot {
-        soft: Soft::Unrecorded,
-    };
     Receiver {
         total: 0,
         front: zero_front(),
         chain: zero_chain(),
         records: Records {
-            slots: [slot; STEPS],
+            slots: [None; STEPS],
         },
         ring: Planes {
             real: [0.0; PLACES],

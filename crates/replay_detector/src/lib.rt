@@ -5,8 +5,8 @@
 ghost use Rattle.std.specs.Prelude.{◌≡◌, ◌<◌, ◌≤◌, length};
 ghost use Rattle.answers.specs.Walk.{Table, Earlier};
 
-use answers::soft::{Records, Slot, Soft};
-use answers::walk::{Answer, Previous};
+use answers::soft::{Records, Soft};
+use answers::walk::Dibit;
 use answers::{PARENTS, STEPS};
 use channels::STATES;
 use complex::Complex32;
@@ -115,14 +115,16 @@ pub fn fill_parents(s: u64, kind: u64, parents: &mut [u8; PARENTS]) -> u64
     seed
 }
 
-fn made_soft(word: u64, kind: u64, high: f32, low: f32) -> Soft {
-    if kind == 0 {
-        Soft::Unrecorded
-    } else if word % 4 == 0 {
-        Soft::Unrecorded
-    } else {
-        Soft::Recorded(word / 4 % 2 == 1, word / 8 % 2 == 1, high, low)
+fn made_soft(word: u64, kind: u64, high: f32, low: f32) -> Option<Soft> {
+    if kind == 0 || word % 4 == 0 {
+        return None;
     }
+    Some(Soft {
+        high_sign: word / 4 % 2 == 1,
+        low_sign: word / 8 % 2 == 1,
+        high_reliability: high,
+        low_reliability: low,
+    })
 }
 
 pub fn made_records(s: u64, kind: u64) -> Made<Records> {
@@ -132,10 +134,7 @@ pub fn made_records(s: u64, kind: u64) -> Made<Records> {
         let word = next(seed);
         let first = next(word);
         let second = next(first);
-        let slot = Slot {
-            soft: made_soft(word, kind, part(kind, first, 0.0), part(kind, second, 0.0)),
-        };
-        records.slots[i] = slot;
+        records.slots[i] = made_soft(word, kind, part(kind, first, 0.0), part(kind, second, 0.0));
         seed = second;
     }
     Made {
@@ -166,13 +165,13 @@ pub fn made_point(s: u64, kind: u64) -> Made<Option<Complex32>> {
     }
 }
 
-fn made_previous(previous: usize) -> Previous
+fn made_previous(previous: usize) -> Option<usize>
     ensures { Earlier result }
 {
     if previous == 0 {
-        Previous::Unknown
+        None
     } else {
-        Previous::Symbol((previous - 1) % 4)
+        Some((previous - 1) % 4)
     }
 }
 
@@ -199,9 +198,7 @@ pub fn stored(records: Records, write: usize, d: Detected) -> Records
     requires { write < 32 }
 {
     let mut r = records;
-    let soft = d.soft;
-    let slot = Slot { soft };
-    r.slots[write] = slot;
+    r.slots[write] = d.soft;
     r
 }
 
@@ -212,10 +209,10 @@ pub fn mixed_point(h: u64, point: Option<Complex32>) -> u64 {
     }
 }
 
-fn shown_previous(previous: Previous) -> u64 {
+fn shown_previous(previous: Option<usize>) -> u64 {
     match previous {
-        Previous::Unknown => 0,
-        Previous::Symbol(k) => std::num::wrapping_add_u64(k as u64, 1),
+        None => 0,
+        Some(k) => std::num::wrapping_add_u64(k as u64, 1),
     }
 }
 
@@ -225,29 +222,26 @@ pub fn mixed_place(h: u64, d: DetectorPlace) -> u64 {
     mixed_float32(mixed_point(b, d.combined), d.noise)
 }
 
-fn mixed_soft(h: u64, soft: Soft) -> u64 {
+fn mixed_soft(h: u64, soft: Option<Soft>) -> u64 {
     match soft {
-        Soft::Unrecorded => mixed(h, 0),
-        Soft::Recorded(high, low, a, b) => {
-            let bits = mixed_flag(mixed_flag(mixed(h, 1), high), low);
-            mixed_float32(mixed_float32(bits, a), b)
+        None => mixed(h, 0),
+        Some(s) => {
+            let bits = mixed_flag(mixed_flag(mixed(h, 1), s.high_sign), s.low_sign);
+            mixed_float32(mixed_float32(bits, s.high_reliability), s.low_reliability)
         }
     }
 }
 
 pub fn mixed_records(h: u64, records: Records) -> u64 {
-    records
-        .slots
-        .iter()
-        .fold(h, |d, slot| mixed_soft(d, slot.soft))
+    records.slots.iter().fold(h, |d, slot| mixed_soft(d, *slot))
 }
 
 // A dibit with its reliabilities as one number, or 0.
-pub fn shown(answer: Answer) -> u64 {
+pub fn shown(answer: Option<Dibit>) -> u64 {
     match answer {
-        Answer::Silent => 0,
-        Answer::Dibit(dibit, first, second) => {
-            0x100_0000 + 0x1_0000 * (dibit as u64) + 0x100 * (first as u64) + (second as u64)
+        None => 0,
+        Some(d) => {
+            0x100_0000 + 0x1_0000 * (d.value as u64) + 0x100 * (d.high as u64) + (d.low as u64)
         }
     }
 }

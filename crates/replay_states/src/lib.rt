@@ -7,8 +7,7 @@
 ghost use Rattle.std.specs.Prelude.{◌+◌, ◌<◌};
 
 use answers::PARENTS;
-use answers::soft::{Records, Slot, Soft};
-use answers::walk::Previous;
+use answers::soft::{Records, Soft};
 use carrier::{CarrierPlace, Loop};
 use chain::ChainPlace;
 use clock::ClockPlace;
@@ -82,42 +81,38 @@ fn observation_at(words: &[u64; WORDS], at: usize) -> Option<Complex32>
     }
 }
 
-fn previous_at(words: &[u64; WORDS], at: usize) -> Previous
+fn previous_at(words: &[u64; WORDS], at: usize) -> Option<usize>
     requires { at + 1 < 18262 }
 {
     if flag_at(words, at) {
-        Previous::Symbol(place_at(words, at + 1))
+        Some(place_at(words, at + 1))
     } else {
-        Previous::Unknown
+        None
     }
 }
 
-fn soft_at(words: &[u64; WORDS], at: usize) -> Soft
+fn soft_at(words: &[u64; WORDS], at: usize) -> Option<Soft>
     requires { at + 4 < 18262 }
 {
     if flag_at(words, at) {
-        Soft::Recorded(
-            flag_at(words, at + 1),
-            flag_at(words, at + 2),
-            float32_at(words, at + 3),
-            float32_at(words, at + 4),
-        )
+        Some(Soft {
+            high_sign: flag_at(words, at + 1),
+            low_sign: flag_at(words, at + 2),
+            high_reliability: float32_at(words, at + 3),
+            low_reliability: float32_at(words, at + 4),
+        })
     } else {
-        Soft::Unrecorded
+        None
     }
 }
 
 fn records_at(words: &[u64; WORDS], from: usize) -> Records
     requires { from + 159 < 18262 }
 {
-    let none = Slot {
-        soft: Soft::Unrecorded,
-    };
-    let mut records = Records { slots: [none; 32] };
+    let mut records = Records { slots: [None; 32] };
     let mut i = 0;
     while i < 32 {
-        let soft = soft_at(words, from + 5 * i);
-        records.slots[i] = Slot { soft };
+        records.slots[i] = soft_at(words, from + 5 * i);
         i += 1;
     }
     records
@@ -350,15 +345,15 @@ fn put_observation(words: &mut [u64; WORDS], at: usize, o: Option<Complex32>)
     }
 }
 
-fn put_previous(words: &mut [u64; WORDS], at: usize, p: Previous)
+fn put_previous(words: &mut [u64; WORDS], at: usize, p: Option<usize>)
     requires { at + 1 < 18262 }
 {
     match p {
-        Previous::Unknown => {
+        None => {
             words[at] = 0;
             words[at + 1] = 0;
         }
-        Previous::Symbol(k) => {
+        Some(k) => {
             words[at] = 1;
             words[at + 1] = k as u64;
         }
@@ -374,17 +369,24 @@ fn put_record(words: &mut [u64; WORDS], at: usize, high: bool, low: bool, first:
     put_float32(words, at + 3, second);
 }
 
-fn put_soft(words: &mut [u64; WORDS], at: usize, s: Soft)
+fn put_soft(words: &mut [u64; WORDS], at: usize, soft: Option<Soft>)
     requires { at + 4 < 18262 }
 {
-    match s {
-        Soft::Unrecorded => {
+    match soft {
+        None => {
             words[at] = 0;
             put_record(words, at + 1, false, false, 0.0, 0.0);
         }
-        Soft::Recorded(a, b, x, y) => {
+        Some(s) => {
             words[at] = 1;
-            put_record(words, at + 1, a, b, x, y);
+            put_record(
+                words,
+                at + 1,
+                s.high_sign,
+                s.low_sign,
+                s.high_reliability,
+                s.low_reliability,
+            );
         }
     }
 }
@@ -394,9 +396,7 @@ fn put_records(words: &mut [u64; WORDS], from: usize, records: Records)
 {
     let mut i = 0;
     while i < 32 {
-        let slot = records.slots[i];
-        let soft = slot.soft;
-        put_soft(words, from + 5 * i, soft);
+        put_soft(words, from + 5 * i, records.slots[i]);
         i += 1;
     }
 }

@@ -1,5 +1,5 @@
 -- A symbol and a row met from what their parts answer, and the ranges that each keeps. Assumes nothing.
-use Rattle.std.specs.Prelude.{◌≡◌, Bool, true, false, cond, List, ◌++◌, length, get_or, drop, Float}
+use Rattle.std.specs.Prelude.{◌≡◌, Bool, true, false, cond, List, ◌++◌, length, get_or, drop, Float, Option}
 use Rattle.std.proofs.Math.Path.{refl}
 use Rattle.std.proofs.Common.{ap, sym, ◌∙◌, subst, ⊎_elim, mod-lt, eq-zero-or-pos, arith}
 use Prim.Native.Nat.{ℕ, zero, suc, ◌+◌, ◌%◌, ◌≤◌}
@@ -8,7 +8,7 @@ use Rattle.laws.specs.Turns.{turns, turns_start, turns_step}
 use Rattle.complex.specs.declared.Complex32.{Complex32}
 use Rattle.complex.specs.Planes.{point_at}
 use Rattle.answers.specs.declared.soft.Soft.{Soft}
-use Rattle.answers.specs.declared.walk.Answer.{Answer}
+use Rattle.answers.specs.declared.walk.Dibit.{Dibit}
 use Rattle.answers.specs.Observed.{record_before}
 use Rattle.answer_row.specs.AnswerRow.{AnswerRow, put_of, Sized}
 use Rattle.answer_row.specs.Laws.{put_sized}
@@ -38,7 +38,7 @@ module _ (s : SecondState) (z : Complex32) (reliable : Bool) where
   decided_enabled = refl
 
 -- in range where it is enabled, and so after a symbol
-module _ (s : SecondState) (first : Answer) (z : Complex32) (reliable : Bool) where
+module _ (s : SecondState) (first : Option Dibit) (z : Complex32) (reliable : Bool) where
   abbrev chosen : Bool → Step
   chosen b = cond b (decided_of s z reliable) (record { state = s; answer = first })
 
@@ -66,7 +66,7 @@ linked_asks l k z reliable h a =
     let s = decided_of l.state z reliable in
     record { state = decided_whole l.state z reliable h; answers = put_sized l.answers k s.answer (locked_of s.state) a }
 
-linked_is : (l : Lent) (k : ℕ) (z : Complex32) (reliable : Bool) (oldest : Soft) (c : CarrierStep) (answers : AnswerRow)
+linked_is : (l : Lent) (k : ℕ) (z : Complex32) (reliable : Bool) (oldest : Option Soft) (c : CarrierStep) (answers : AnswerRow)
     → oldest ≡ record_before l.state.records (slot_at l.state)
     → c ≡ carried_of l.state.carrier z reliable oldest l.state.memory l.state.costs l.state.parents
     → answers ≡ put_of l.answers k c.carried.answer c.carried.place.turn.locked
@@ -75,9 +75,9 @@ unfolding linked_of decided_of
 linked_is l k z reliable oldest c answers is_oldest is_c is_answers =
     ap (λ (w : AnswerRow). record { state = (decided_with l.state c).state; answers = w }) is_answers
     ∙ ap (λ (d : CarrierStep). linked_with l k (decided_with l.state d))
-    (is_c ∙ ap (λ (o : Soft). carried_of l.state.carrier z reliable o l.state.memory l.state.costs l.state.parents) is_oldest)
+    (is_c ∙ ap (λ (o : Option Soft). carried_of l.state.carrier z reliable o l.state.memory l.state.costs l.state.parents) is_oldest)
 
-pub link_meets : (l : Lent) (k : ℕ) (z : Complex32) (reliable : Bool) (oldest : Soft) (c : CarrierStep) (answers : AnswerRow)
+pub link_meets : (l : Lent) (k : ℕ) (z : Complex32) (reliable : Bool) (oldest : Option Soft) (c : CarrierStep) (answers : AnswerRow)
     → oldest ≡ record_before l.state.records (slot_at l.state)
     → c ≡ carried_of l.state.carrier z reliable oldest l.state.memory l.state.costs l.state.parents
     → answers ≡ put_of l.answers k c.carried.answer c.carried.place.turn.locked

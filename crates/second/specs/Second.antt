@@ -1,10 +1,10 @@
 -- The second stream: a symbol through its carrier, around the detector with the second tracker. Definitions only.
-use Rattle.std.specs.Prelude.{ℕ, Bool, true, cond, List, ◌++◌, take, drop, set, replicate, Float}
+use Rattle.std.specs.Prelude.{ℕ, Bool, true, cond, List, ◌++◌, take, drop, set, replicate, Float, Option}
 use Rattle.numbers.specs.Constants.{zero32}
 use Rattle.complex.specs.declared.Complex32.{Complex32}
-use Rattle.answers.specs.declared.soft.Slot.{Slot}
-use Rattle.answers.specs.declared.walk.Answer.{Answer}
-use Rattle.answers.specs.Observed.{slot_of, record_before}
+use Rattle.answers.specs.declared.soft.Soft.{Soft}
+use Rattle.answers.specs.declared.walk.Dibit.{Dibit}
+use Rattle.answers.specs.Observed.{record_before}
 use Rattle.sequence.specs.Sequence.{fresh_records}
 use Rattle.drift_tracker.specs.Drift.{Memory}
 use Rattle.drift_detector.specs.Detector.{fresh_memory}
@@ -17,7 +17,7 @@ use Rattle.second.specs.declared.Second.{Second}
 pub record SecondState : Type 0 where
   pub enabled : Bool
   pub carrier : CarrierPlace
-  pub records : List Slot
+  pub records : List (Option Soft)
   pub memory : Memory
   pub costs : List Float
   pub parents : List ℕ
@@ -49,7 +49,7 @@ second_of s m parents = record {
 -- what a symbol leaves, and the answer to it
 pub record Step : Type 0 where
   pub state : SecondState
-  pub answer : Answer
+  pub answer : Option Dibit
 
 -- where the detector's next record goes
 abbrev pub slot_at : SecondState → ℕ
@@ -60,7 +60,7 @@ decided_with s c = record {
   state = record {
     enabled = s.enabled;
     carrier = c.carried.place;
-    records = set s.records (slot_at s) (slot_of c.carried.soft);
+    records = set s.records (slot_at s) c.carried.soft;
     memory = c.memory;
     costs = c.costs;
     parents = c.parents;
@@ -73,7 +73,7 @@ unfoldable pub decided_of : SecondState → Complex32 → Bool → Step
 decided_of s z reliable = decided_with s (carried_of s.carrier z reliable (record_before s.records (slot_at s)) s.memory s.costs s.parents)
 
 -- the second's answer to a symbol; while it is not enabled, the first's
-unfoldable pub other_of : SecondState → Answer → Complex32 → Bool → Step
+unfoldable pub other_of : SecondState → Option Dibit → Complex32 → Bool → Step
 other_of s first z reliable = cond s.enabled (decided_of s z reliable) (record { state = s; answer = first })
 
 -- whether the carrier is locked

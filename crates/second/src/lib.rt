@@ -76,9 +76,8 @@ pub fn fresh_memory() -> [f32; MEMORY]
 pub fn is_admitted(s: Second, parents: &[u8; PARENTS]) -> bool
     ensures { result ≡ admitted_of s parents.now }
 {
-    let place = s.carrier;
     if s.enabled {
-        carrier::is_admitted(place) & are_states(parents)
+        carrier::is_admitted(s.carrier) & are_states(parents)
     } else {
         true
     }

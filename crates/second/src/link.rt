@@ -7,7 +7,7 @@ ghost use Rattle.second.specs.Lends.{GivenLink, LeavesLink, LeavesTurns};
 use super::Second;
 use answer_row::{BYTES, FLAGS, put};
 use answers::PARENTS;
-use answers::soft::{Slot, oldest};
+use answers::soft::oldest;
 use channels::{CHANNELS, STATES};
 use complex::Complex32;
 use drift_tracker::DRIFTS;
@@ -35,23 +35,17 @@ fn link(
     ensures { LeavesLink t result real imaginary drift inverse next costs parents flags bytes
         (λ b a. (a ≡ linked_of b at symbol reliable) × Asks a) }
 {
-    let before = t.carrier;
     let mut records = t.records;
-    let detector = before.detector;
-    let slot = detector.write;
+    let slot = t.carrier.detector.write;
     let last = oldest(records, slot);
     let c = drift_carrier::step(
-        before, symbol, reliable, last, real, imaginary, drift, inverse, next, costs, parents,
+        t.carrier, symbol, reliable, last, real, imaginary, drift, inverse, next, costs, parents,
     );
-    let carrier = c.place;
-    let soft = c.soft;
-    let answer = c.answer;
-    records.slots[slot] = Slot { soft };
-    let turn = carrier.turn;
-    put(at, answer, turn.locked, flags, bytes);
+    records.slots[slot] = c.soft;
+    put(at, c.answer, c.place.turn.locked, flags, bytes);
     Second {
         enabled: t.enabled,
-        carrier,
+        carrier: c.place,
         records,
     }
 }

@@ -8,18 +8,6 @@ use channels::{CHANNELS, STATES};
 use drift_tracker::DRIFTS;
 use least_squares::ALL;
 
-// All numbers of one slice into another of its length.
-fn copy(from: &[f32], to: &mut [f32])
-    requires { length from.now ≡ length to.old }
-    ensures { to.new ≡ from.now }
-{
-    let mut k = 0;
-    while k < to.len() {
-        to[k] = from[k];
-        k += 1;
-    }
-}
-
 // Each part into its own array.
 pub fn take_out(
     memory: &[f32],
@@ -34,11 +22,11 @@ pub fn take_out(
     ensures { LeavesParts real imaginary drift inverse costs
         (λ m c. (m ≡ memory_of memory.now) × (c ≡ costs_of memory.now)) }
 {
-    copy(&memory[0..256], real);
-    copy(&memory[256..512], imaginary);
-    copy(&memory[512..1024], drift);
-    copy(&memory[1024..9216], inverse);
-    copy(&memory[9216..9280], costs);
+    real.copy_from_slice(&memory[0..256]);
+    imaginary.copy_from_slice(&memory[256..512]);
+    drift.copy_from_slice(&memory[512..1024]);
+    inverse.copy_from_slice(&memory[1024..9216]);
+    costs.copy_from_slice(&memory[9216..9280]);
 }
 
 // Each array into its part. What lies behind them stays.
@@ -55,11 +43,11 @@ pub fn put_in(
     ensures { EntersParts real imaginary drift inverse costs
         (λ m c. memory.new ≡ joined_of m c ++ drop 9280 memory.old) }
 {
-    copy(real, &mut memory[0..256]);
-    copy(imaginary, &mut memory[256..512]);
-    copy(drift, &mut memory[512..1024]);
-    copy(inverse, &mut memory[1024..9216]);
-    copy(costs, &mut memory[9216..9280]);
+    memory[0..256].copy_from_slice(real);
+    memory[256..512].copy_from_slice(imaginary);
+    memory[512..1024].copy_from_slice(drift);
+    memory[1024..9216].copy_from_slice(inverse);
+    memory[9216..9280].copy_from_slice(costs);
 }
 
 // The arrays into their parts after a row of `count` symbols: the inverses are in `even` or in `odd`.

@@ -37,10 +37,8 @@ pub fn inverses() -> [f32; ALL]
     ensures { result ≡ fresh_memory.inverse }
 {
     let mut inverse = [0.0; ALL];
-    let mut k = 0;
-    while k < ALL {
+    for k in 0..ALL {
         inverse[k] = number(k);
-        k += 1;
     }
     inverse
 }

@@ -39,8 +39,7 @@ pub fn run(
     ensures whole { (length even.new ≡ 8192) × (length odd.new ≡ 8192) }
 {
     let mut t = first;
-    let mut i = 0;
-    while i < count {
+    for i in 0..count {
         let symbol = Complex32 {
             real: symbol_real[i],
             imaginary: symbol_imaginary[i],
@@ -60,7 +59,6 @@ pub fn run(
             flags,
             bytes,
         );
-        i += 1;
     }
     t
 }

@@ -1,14 +1,12 @@
 -- Whether a detector may be run: the tests of its place and of its parents. Definitions only.
-use Rattle.std.specs.Prelude.{ℕ, max, Bool, true, ◌&&◌, List, ltb, leb, get_or}
+use Rattle.std.specs.Prelude.{ℕ, max, Bool, true, ◌&&◌, List, ltb, leb, get_or, Option, None, Some}
 use Rattle.laws.specs.Turns.{turns}
-use Rattle.answers.specs.declared.walk.Previous.{Previous}
-use Rattle.answers.specs.declared.walk.Previous.TheVariants.{Unknown, Symbol}
 use Rattle.sequence.specs.declared.step.DetectorPlace.{DetectorPlace}
 
 -- previous symbol below 4, where there is one
-abbrev pub is_symbol : Previous → Bool
-is_symbol Unknown = true
-is_symbol (Symbol s) = ltb s 4
+abbrev pub is_symbol : Option ℕ → Bool
+is_symbol None = true
+is_symbol (Some s) = ltb s 4
 
 -- the place in the ring of 32; at most 32 steps held
 unfoldable pub admitted_of : DetectorPlace → Bool

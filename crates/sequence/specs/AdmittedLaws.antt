@@ -1,20 +1,18 @@
 -- The tests pass exactly where the ranges hold: `admitted_ranged` and `ranged_admitted` of the place, `states_table` and `table_states` of the parents.
 -- Assumes nothing.
-use Rattle.std.specs.Prelude.{◌≡◌, refl, Bool, true, ◌&&◌, List, ℕ, zero, suc, max, ltb, leb, get_or}
+use Rattle.std.specs.Prelude.{◌≡◌, refl, Bool, true, ◌&&◌, List, ℕ, zero, suc, max, ltb, leb, get_or, Option, None, Some}
 use Rattle.std.proofs.Common.{sym, ap, ◌∙◌, inl, inr, arith, ltb-true, leb-true, lt-ltb, le-ltb, le-leb}
 use Rattle.laws.specs.Turns.{turns}
 use Rattle.laws.specs.Places.{all_true, true_all}
 use Rattle.laws.specs.Branches.{and_true}
 use Rattle.laws.specs.Ring.{lt_or_ge}
-use Rattle.answers.specs.declared.walk.Previous.{Previous}
-use Rattle.answers.specs.declared.walk.Previous.TheVariants.{Unknown, Symbol}
 use Rattle.sequence.specs.declared.step.DetectorPlace.{DetectorPlace}
 use Rattle.answers.specs.Walk.{Table, Earlier}
 use Rattle.sequence.specs.Ranges.{PlaceRanged}
 use Rattle.sequence.specs.Admitted.{is_symbol, admitted_of, states_turn, are_states, largest_turn, largest_of}
 
 -- ---- what the code gives is what the definitions say
-pub symbol_is : (p : Previous) (s : ℕ) → p ≡ Symbol s → ltb s 4 ≡ is_symbol p
+pub symbol_is : (p : Option ℕ) (s : ℕ) → p ≡ Some s → ltb s 4 ≡ is_symbol p
 symbol_is p s e = sym (ap is_symbol e)
 
 pub admitted_is : (d : DetectorPlace) (b : Bool) → b ≡ is_symbol d.previous → ((ltb d.write 32 && leb d.filled 32) && b) ≡ admitted_of d
@@ -42,13 +40,13 @@ unfolding largest_of are_states
 largest_below parents n e = ap (λ (k : ℕ). ltb k 64) e ∙ below_turns parents 2048
 
 -- ---- the place
-symbol_from : (p : Previous) → is_symbol p ≡ true → Earlier p
-symbol_from Unknown h = tt
-symbol_from (Symbol s) h = ltb-true s 4 h
+symbol_from : (p : Option ℕ) → is_symbol p ≡ true → Earlier p
+symbol_from None h = tt
+symbol_from (Some s) h = ltb-true s 4 h
 
-symbol_to : (p : Previous) → Earlier p → is_symbol p ≡ true
-symbol_to Unknown h = refl
-symbol_to (Symbol s) h = lt-ltb s 4 h
+symbol_to : (p : Option ℕ) → Earlier p → is_symbol p ≡ true
+symbol_to None h = refl
+symbol_to (Some s) h = lt-ltb s 4 h
 
 pub admitted_ranged : (d : DetectorPlace) → admitted_of d ≡ true → PlaceRanged d
 unfolding admitted_of

@@ -1,6 +1,6 @@
 -- What the walk back reads, for every fill and write place: of the steps that were run, the k-th row back is the k-th newest step's parents, and the
 -- record of 31 steps before is that step's own. And what ranges and costs every list of inputs keeps. Assumes nothing.
-use Rattle.std.specs.Prelude.{◌≡◌, List, [], ◌∷◌, length}
+use Rattle.std.specs.Prelude.{◌≡◌, List, [], ◌∷◌, length, Option, None, Some}
 use Rattle.std.proofs.Math.Path.{refl, ap}
 use Rattle.std.proofs.Common.{sym, ◌∙◌, subst, ⊎_elim, arith, length-set, get_or-set_same, get_or-set_other}
 use Prim.Native.Nat.{ℕ, zero, suc, ◌+◌, ◌-◌, ◌*◌, ◌%◌, ◌≤◌, ◌<◌}
@@ -9,12 +9,8 @@ use Rattle.laws.specs.Turns.{turns}
 use Rattle.laws.specs.Ring.{lt_or_ge}
 use Rattle.trellis.specs.Trellis.{advanced_of}
 use Rattle.trellis.specs.Laws.{best_below}
-use Rattle.answers.specs.declared.soft.Slot.{Slot}
-use Rattle.answers.specs.declared.soft.Soft.TheVariants.{Unrecorded}
-use Rattle.answers.specs.declared.walk.Previous.TheVariants.{Symbol}
-use Rattle.answers.specs.declared.walk.Answer.TheVariants.{Silent}
+use Rattle.answers.specs.declared.soft.Soft.{Soft}
 use Rattle.answers.specs.declared.walk.Walked.{Walked}
-use Rattle.answers.specs.Observed.{slot_of}
 use Rattle.answers.specs.Walk.{stored_of, parent_before, state_before_of, decided_of, walked_of}
 use Rattle.sequence.specs.Sequence.{one_more_of, reported_of, stepped_with, stepped_of}
 use Rattle.sequence.specs.Ranges.{Sound}
@@ -47,7 +43,7 @@ next_parents d i = refl
 -- ---- the history that a detector holds: of each step made, up to 32 back
 pub record Holds (d : Skeleton) (made : List Made) : Type 0 where
   pub rows : (k s : ℕ) → k < 32 → k < length made → s < 64 → get_or d.parents (64 * ((d.place.write + 31 - k) % 32) + s) 0 ≡ get_or (made_at made k).row s 0
-  pub softs : (k : ℕ) → k < 32 → k < length made → (get_or d.records.slots ((d.place.write + 31 - k) % 32) (slot_of Unrecorded)).soft ≡ (made_at made k).soft
+  pub softs : (k : ℕ) → k < 32 → k < length made → get_or d.records.slots ((d.place.write + 31 - k) % 32) None ≡ (made_at made k).soft
 
 pub holds_none : (d : Skeleton) → Holds d []
 holds_none d = record { rows = λ k s a b. absurd (omega arith); softs = λ k a b. absurd (omega arith) }
@@ -81,15 +77,15 @@ holds_step d i made h o = record { rows = rows; softs = softs }
         ∙ o.rows k s (omega arith) (omega arith) l)
 
     softs : (k : ℕ) → k < 32 → k < suc (length made)
-        → (get_or (after_of d i).records.slots (((after_of d i).place.write + 31 - k) % 32) (slot_of Unrecorded)).soft ≡ (made_at (made_by d i ∷ made) k).soft
+        → get_or (after_of d i).records.slots (((after_of d i).place.write + 31 - k) % 32) None ≡ (made_at (made_by d i ∷ made) k).soft
     softs zero a b =
         unfold put_of in
         rw (next_write d i, place_newest d.place.write in_ring)
-        (ap (λ (z : Slot). z.soft) (get_or-set_same d.records.slots d.place.write (slot_of (made_by d i).soft) (slot_of Unrecorded) (rw h.slots in_ring)))
+        (get_or-set_same d.records.slots d.place.write (made_by d i).soft None (rw h.slots in_ring))
     softs (suc k) a b =
         unfold put_of in
         rw (next_write d i, place_before d.place.write k in_ring a)
-        (ap (λ (z : Slot). z.soft) (get_or-set_other d.records.slots d.place.write ((d.place.write + 31 - k) % 32) (slot_of (made_by d i).soft) (slot_of Unrecorded) (place_other d.place.write k in_ring a))
+        (get_or-set_other d.records.slots d.place.write ((d.place.write + 31 - k) % 32) (made_by d i).soft None (place_other d.place.write k in_ring a)
         ∙ o.softs k (omega arith) (omega arith))
 
 pub holds_ran : (d : Skeleton) (before : List Made) (is : List Step) → Sound d → Holds d before → Holds (ran_of d is) (history_of d before is)
@@ -134,7 +130,7 @@ pub oldest_made : (d : Skeleton) (made : List Made) → Sound d → Holds d made
 oldest_made d made h o l =
     let w = h.ranged.place.write in
     let e : (d.place.write + 1) % 32 ≡ (d.place.write + 31 - 30) % 32 = omega arith in
-    ap (λ (z : ℕ). (get_or d.records.slots z (slot_of Unrecorded)).soft) e ∙ o.softs 30 (omega arith) (omega arith)
+    ap (λ (z : ℕ). get_or d.records.slots z None) e ∙ o.softs 30 (omega arith) (omega arith)
 
 -- ---- how many steps are held
 pub filled_next : (d : Skeleton) (i : Step) → (after_of d i).place.filled ≡ one_more_of d.place.filled
@@ -173,23 +169,23 @@ module _ (d : Skeleton) (i : Step) where
   previous_walked = refl
 
   -- with fewer than 31 steps before it, a step is silent
-  short : d.place.filled < 31 → walk_of d i ≡ record { previous = d.place.previous; answer = Silent }
+  short : d.place.filled < 31 → walk_of d i ≡ record { previous = d.place.previous; answer = None }
   short h = sym (walk_silent _ _ _ _ _ _ h)
 
-  pub answer_short : d.place.filled < 31 → answer_of d i ≡ Silent
+  pub answer_short : d.place.filled < 31 → answer_of d i ≡ None
   answer_short h = answer_walked ∙ ap (λ (z : Walked). z.answer) (short h)
 
   pub previous_short : d.place.filled < 31 → (after_of d i).place.previous ≡ d.place.previous
   previous_short h = previous_walked ∙ ap (λ (z : Walked). z.previous) (short h)
 
   -- with 31 it is decided
-  long : 31 ≤ d.place.filled → walk_of d i ≡ record { previous = Symbol (end_of d i % 4); answer = decided_of (end_of d i % 4) d.place.previous (oldest_of d) }
+  long : 31 ≤ d.place.filled → walk_of d i ≡ record { previous = Some (end_of d i % 4); answer = Some (decided_of (end_of d i % 4) d.place.previous (oldest_of d)) }
   long h = sym (walk_full _ _ _ _ _ _ _ _ h refl refl)
 
-  pub answer_long : 31 ≤ d.place.filled → answer_of d i ≡ decided_of (end_of d i % 4) d.place.previous (oldest_of d)
+  pub answer_long : 31 ≤ d.place.filled → answer_of d i ≡ Some (decided_of (end_of d i % 4) d.place.previous (oldest_of d))
   answer_long h = answer_walked ∙ ap (λ (z : Walked). z.answer) (long h)
 
-  pub previous_long : 31 ≤ d.place.filled → (after_of d i).place.previous ≡ Symbol (end_of d i % 4)
+  pub previous_long : 31 ≤ d.place.filled → (after_of d i).place.previous ≡ Some (end_of d i % 4)
   previous_long h = previous_walked ∙ ap (λ (z : Walked). z.previous) (long h)
 
 best_state_lem : (d : Skeleton) (i : Step) → best_state d i < 64
@@ -200,7 +196,7 @@ best_state_lem d i = best_below _
 -- the record that the step 31 before made
 pub answered : (d : Skeleton) (is : List Step) (i : Step) → Sound d → 31 ≤ length is
     → answer_of (ran_of d is) i
-    ≡ decided_of (traced (made_by (ran_of d is) i ∷ history_of d [] is) 31 (best_state (ran_of d is) i) % 4) (ran_of d is).place.previous (made_at (history_of d [] is) 30).soft
+    ≡ Some (decided_of (traced (made_by (ran_of d is) i ∷ history_of d [] is) 31 (best_state (ran_of d is) i) % 4) (ran_of d is).place.previous (made_at (history_of d [] is) 30).soft)
 answered d is i h l =
     let e = ran_of d is in
     let s = ran_sound d is h in
@@ -208,5 +204,6 @@ answered d is i h l =
     let o = holds_ran d [] is h (holds_none d) in
     let n : 31 ≤ length made = subst (λ (z : ℕ). 31 ≤ z) (sym (history_length d [] is)) (omega arith) in
     answer_long e i (filled_least d is 31 (omega arith) (omega arith))
-    ∙ ap (λ (z : ℕ). decided_of (z % 4) e.place.previous (oldest_of e)) (state_traced e i made s o (omega arith) (best_state e i) (best_state_lem e i))
-    ∙ ap (decided_of (traced (made_by e i ∷ made) 31 (best_state e i) % 4) e.place.previous) (oldest_made e made s o n)
+    ∙ ap Some
+    (ap (λ (z : ℕ). decided_of (z % 4) e.place.previous (oldest_of e)) (state_traced e i made s o (omega arith) (best_state e i) (best_state_lem e i))
+    ∙ ap (decided_of (traced (made_by e i ∷ made) 31 (best_state e i) % 4) e.place.previous) (oldest_made e made s o n))

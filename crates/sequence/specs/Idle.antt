@@ -1,5 +1,5 @@
 -- Unreliable steps from a fresh detector, whatever the inputs' values: 31 are silent and each later one gives dibit 0 with [0, 0]. Assumes nothing.
-use Rattle.std.specs.Prelude.{◌≡◌, Bool, true, false, List, [], ◌∷◌, ◌++◌, ltb, length, replicate, Float, Option, None}
+use Rattle.std.specs.Prelude.{◌≡◌, Bool, true, false, List, [], ◌∷◌, ◌++◌, ltb, length, replicate, Float, Option, None, Some}
 use Rattle.std.proofs.Math.Path.{refl, ap, ap₂}
 use Rattle.std.proofs.Common.{sym, ◌∙◌, subst, arith, get_or-set_same, get_or-set_other}
 use Rattle.std.proofs.Math.Logic.{⊎_elim}
@@ -20,14 +20,10 @@ use Rattle.trellis.specs.declared.best.Least.{Least}
 use Rattle.arrivals.specs.Arrivals.{metric_of, branch_of, no_branch, better, chosen_of, arrival_of}
 use Rattle.trellis.specs.Trellis.{arrived_of, precedes, best_turn, best_of, advanced_of}
 use Rattle.channels.specs.declared.channel.Taps.{Taps}
-use Rattle.answers.specs.declared.soft.Soft.TheVariants.{Unrecorded}
-use Rattle.answers.specs.declared.soft.Slot.{Slot}
-use Rattle.answers.specs.declared.walk.Previous.{Previous}
-use Rattle.answers.specs.declared.walk.Previous.TheVariants.{Unknown, Symbol}
-use Rattle.answers.specs.declared.walk.Answer.{Answer}
-use Rattle.answers.specs.declared.walk.Answer.TheVariants.{Silent, Dibit}
-use Rattle.answers.specs.Observed.{observed_with, observed_of, record_of, slot_of}
-use Rattle.answers.specs.Walk.{stored_of, parent_before, state_before_of, decided_of}
+use Rattle.answers.specs.declared.soft.Soft.{Soft}
+use Rattle.answers.specs.declared.walk.Dibit.{Dibit}
+use Rattle.answers.specs.Observed.{observed_with, observed_of, record_of}
+use Rattle.answers.specs.Walk.{stored_of, parent_before, state_before_of, zero_dibit, decided_of}
 use Rattle.sequence.specs.Sequence.{fresh_records, reported_of, stepped_with, stepped_of}
 use Rattle.sequence.specs.Ranges.{Sound}
 use Rattle.sequence.specs.Steps.{below_is, above_is, same_or_other, stored_row, stored_other}
@@ -121,16 +117,16 @@ module _ (c : Planes) (costs : List Float) (input : Complex32) (reliable : Bool)
   root_zero = upto_at (λ s. (arrival_of c costs input reliable s).prior) 64 0 0 (omega arith) ∙ ap (λ (z : Branch). z.prior) (chosen_first (0 % 4) (0 / 4) (omega arith))
 
 -- ---- an idle detector
-abbrev pub AtZero : Previous → Type 0
-AtZero Unknown = Unit
-AtZero (Symbol k) = k ≡ 0
+abbrev pub AtZero : Option ℕ → Type 0
+AtZero None = Unit
+AtZero (Some k) = k ≡ 0
 
 -- every cost is 0, the state 0 comes of the state 0 at every step, no record is held, and the last symbol, where there is one, was 0
 pub record Idle (d : Skeleton) : Type 0 where
   pub sound : Sound d
   pub costs : (s : ℕ) → s < 64 → get_or d.costs s nan ≡ none
   pub roots : (w : ℕ) → w < 32 → get_or d.parents (64 * w + 0) 0 ≡ 0
-  pub softs : (k : ℕ) → k < 32 → (get_or d.records.slots k (slot_of Unrecorded)).soft ≡ Unrecorded
+  pub softs : (k : ℕ) → k < 32 → get_or d.records.slots k None ≡ None
   pub previous : AtZero d.place.previous
 
 idle_fresh : Idle fresh_skeleton
@@ -139,7 +135,7 @@ idle_fresh = record {
   sound = fresh_sound;
   costs = λ s h. get_or-replicate 64 s none nan h;
   roots = λ w h. get_or-replicate {A = ℕ} 2048 (64 * w + 0) 0 0 (omega arith);
-  softs = λ k h. ap (λ (z : Slot). z.soft) (get_or-replicate 32 k (slot_of Unrecorded) (slot_of Unrecorded) h);
+  softs = λ k h. get_or-replicate 32 k None None h;
   previous = tt;
 }
 
@@ -147,10 +143,10 @@ unseen : (input : Complex32) (reliable : Bool) (t : Taps) (p : ℕ) → reliable
 unfolding observed_of observed_with
 unseen input reliable t p e = rw e
 
-no_record : (now before : Option Complex32) (noise : Float) → now ≡ None → record_of now before noise ≡ Unrecorded
+no_record : (now before : Option Complex32) (noise : Float) → now ≡ None → record_of now before noise ≡ None
 no_record now before noise e = rw e
 
-unrecorded : (d : Skeleton) (i : Step) → i.reliable ≡ false → (left_of d i).detected.soft ≡ Unrecorded
+unrecorded : (d : Skeleton) (i : Step) → i.reliable ≡ false → (left_of d i).detected.soft ≡ None
 unfolding stepped_of stepped_with reported_of
 unrecorded d i e = no_record _ _ _ (unseen i.value i.reliable _ _ e)
 
@@ -186,15 +182,15 @@ module _ (d : Skeleton) (i : Step) (h : Idle d) (off : i.reliable ≡ false) whe
       (λ a. subst AtZero (sym (previous_long d i a)) (ap (λ (z : ℕ). z % 4) state_zero))
       (lt_or_ge d.place.filled 31)
 
-  new_softs : (k : ℕ) → k < 32 → (get_or (after_of d i).records.slots k (slot_of Unrecorded)).soft ≡ Unrecorded
+  new_softs : (k : ℕ) → k < 32 → get_or (after_of d i).records.slots k None ≡ None
   unfolding put_of
   new_softs k l =
       let r = h.sound in
       ⊎_elim
-      (λ e. ap (λ (z : ℕ). (get_or (after_of d i).records.slots z (slot_of Unrecorded)).soft) e
-      ∙ ap (λ (z : Slot). z.soft) (get_or-set_same d.records.slots d.place.write (slot_of (made_by d i).soft) (slot_of Unrecorded) (rw r.slots r.ranged.place.write))
+      (λ e. ap (λ (z : ℕ). get_or (after_of d i).records.slots z None) e
+      ∙ get_or-set_same d.records.slots d.place.write (made_by d i).soft None (rw r.slots r.ranged.place.write)
       ∙ unrecorded d i off)
-      (λ n. ap (λ (z : Slot). z.soft) (get_or-set_other d.records.slots d.place.write k (slot_of (made_by d i).soft) (slot_of Unrecorded) n) ∙ h.softs k l)
+      (λ n. get_or-set_other d.records.slots d.place.write k (made_by d i).soft None n ∙ h.softs k l)
       (same_or_other k d.place.write)
 
   new_costs : (s : ℕ) → s < 64 → get_or (after_of d i).costs s nan ≡ none
@@ -204,16 +200,17 @@ module _ (d : Skeleton) (i : Step) (h : Idle d) (off : i.reliable ≡ false) whe
   idle_step : Idle (after_of d i)
   idle_step = record { sound = step_sound d i h.sound; costs = new_costs; roots = new_roots; softs = new_softs; previous = still }
 
-  zero_decided : (previous : Previous) → AtZero previous → decided_of 0 previous Unrecorded ≡ Dibit 0 0 0
-  zero_decided Unknown e = refl
-  zero_decided (Symbol k) e = ap (λ (z : ℕ). decided_of 0 (Symbol z) Unrecorded) e
+  zero_decided : (previous : Option ℕ) → AtZero previous → decided_of 0 previous None ≡ zero_dibit
+  zero_decided None e = refl
+  zero_decided (Some k) e = ap (λ (z : ℕ). decided_of 0 (Some z) None) e
 
-  idle_answer : (n : ℕ) → Counted n d → 31 ≤ n → answer_of d i ≡ Dibit 0 0 0
+  idle_answer : (n : ℕ) → Counted n d → 31 ≤ n → answer_of d i ≡ Some zero_dibit
   idle_answer n c l =
       decided n d i c l
-      ∙ ap (λ (z : ℕ). decided_of (z % 4) d.place.previous (oldest_of d)) state_zero
+      ∙ ap Some
+      (ap (λ (z : ℕ). decided_of (z % 4) d.place.previous (oldest_of d)) state_zero
       ∙ ap (decided_of 0 d.place.previous) (h.softs ((d.place.write + 1) % 32) (omega arith))
-      ∙ zero_decided d.place.previous h.previous
+      ∙ zero_decided d.place.previous h.previous)
 
 -- ---- many unreliable steps
 abbrev pub Unreliable : List Step → Type 0
@@ -221,20 +218,20 @@ Unreliable [] = Unit
 Unreliable (i ∷ is) = (i.reliable ≡ false) × Unreliable is
 
 -- the answers of m steps after n
-abbrev pub dues : ℕ → ℕ → List Answer
+abbrev pub dues : ℕ → ℕ → List (Option Dibit)
 dues n zero = []
-dues n (suc m) = cond (ltb n 31) Silent (Dibit 0 0 0) ∷ dues (suc n) m
+dues n (suc m) = cond (ltb n 31) None (Some zero_dibit) ∷ dues (suc n) m
 
 pub idle_answers : (n : ℕ) (d : Skeleton) (is : List Step) → Counted n d → Idle d → Unreliable is → answers_of d is ≡ dues n (length is)
 idle_answers n d [] c h u = refl
 idle_answers n d (i ∷ is) c h u =
-    ap₂ (λ (a : Answer) (rest : List Answer). a ∷ rest)
+    ap₂ (λ (a : Option Dibit) (rest : List (Option Dibit)). a ∷ rest)
     (⊎_elim
-    (λ l. quiet n d i c l ∙ below_is n 31 Silent (Dibit 0 0 0) l)
-    (λ g. idle_answer d i h u.0 n c g ∙ above_is n 31 Silent (Dibit 0 0 0) g)
+    (λ l. quiet n d i c l ∙ below_is n 31 None (Some zero_dibit) l)
+    (λ g. idle_answer d i h u.0 n c g ∙ above_is n 31 None (Some zero_dibit) g)
     (lt_or_ge n 31))
     (idle_answers (suc n) (after_of d i) is (counted_step n d i c) (idle_step d i h u.0) u.1)
 
 -- CASE 14: of 40 unreliable steps of a fresh detector 31 are silent, and then come nine of dibit 0 with [0, 0]
-pub case_14 : (is : List Step) → length is ≡ 40 → Unreliable is → answers_of fresh_skeleton is ≡ replicate 31 Silent ++ replicate 9 (Dibit 0 0 0)
+pub case_14 : (is : List Step) → length is ≡ 40 → Unreliable is → answers_of fresh_skeleton is ≡ replicate 31 None ++ replicate 9 (Some zero_dibit)
 case_14 is e u = idle_answers 0 fresh_skeleton is counted_fresh idle_fresh u ∙ ap (dues 0) e

@@ -1,6 +1,6 @@
 -- One step of the sequence detector with the channels that it is given: the trellis, the observation and the walk back. How the channels follow is a
 -- tracker's. Definitions only.
-use Rattle.std.specs.Prelude.{ℕ, ◌+◌, ◌%◌, Bool, cond, List, ltb, get_or, replicate, Float, None}
+use Rattle.std.specs.Prelude.{ℕ, ◌+◌, ◌%◌, Bool, cond, List, ltb, get_or, replicate, Float, None, Option}
 use Rattle.std.specs.Float.{binary32}
 use Rattle.std.specs.Float.Ieee.{of_bits}
 use Rattle.laws.specs.Places.{upto}
@@ -11,15 +11,13 @@ use Rattle.complex.specs.Complex.{difference_of, conjugate_product_of, power_of}
 use Rattle.complex.specs.Planes.{Planes, point_at}
 use Rattle.channels.specs.Channels.{taps_of}
 use Rattle.trellis.specs.Trellis.{Advance, advanced_of}
-use Rattle.answers.specs.declared.combine.Seen.{Seen}
 use Rattle.answers.specs.declared.soft.Soft.{Soft}
-use Rattle.answers.specs.declared.soft.Soft.TheVariants.{Unrecorded}
+use Rattle.answers.specs.declared.combine.Seen.{Seen}
 use Rattle.answers.specs.declared.soft.Records.{Records}
-use Rattle.answers.specs.declared.walk.Previous.TheVariants.{Unknown}
 use Rattle.answers.specs.declared.walk.Walked.{Walked}
 use Rattle.sequence.specs.declared.step.DetectorPlace.{DetectorPlace}
 use Rattle.sequence.specs.declared.step.Detected.{Detected}
-use Rattle.answers.specs.Observed.{observed_of, noise_after_of, record_of, slot_of}
+use Rattle.answers.specs.Observed.{observed_of, noise_after_of, record_of}
 use Rattle.answers.specs.Walk.{stored_of, walked_of}
 
 -- ---- a fresh detector
@@ -28,7 +26,7 @@ abbrev pub fresh_noise : Float
 fresh_noise = of_bits binary32 0x3dcccccd  -- 0.1
 
 abbrev pub fresh_place : DetectorPlace
-fresh_place = record { write = 0; filled = 0; previous = Unknown; combined = None; noise = fresh_noise }
+fresh_place = record { write = 0; filled = 0; previous = None; combined = None; noise = fresh_noise }
 
 -- the main tap of each state is 1, and all else is 0
 abbrev pub fresh_tap : ℕ → Float
@@ -38,7 +36,7 @@ unfoldable pub fresh_real : List Float
 fresh_real = upto fresh_tap 256
 
 unfoldable pub fresh_records : Records
-fresh_records = record { slots = replicate 32 (slot_of Unrecorded) }
+fresh_records = record { slots = replicate 32 None }
 
 -- ---- what the carrier is told: nothing of an unreliable input
 
@@ -86,7 +84,7 @@ abbrev pub prior_of : Advance → ℕ
 prior_of a = get_or a.parents a.best 0
 
 -- what the trellis' step makes of the rest: the parents are stored, and the walk goes back from the best state
-unfoldable pub stepped_with : DetectorPlace → Complex32 → Bool → Soft → Planes → List ℕ → Advance → Stepped
+unfoldable pub stepped_with : DetectorPlace → Complex32 → Bool → Option Soft → Planes → List ℕ → Advance → Stepped
 stepped_with d input reliable oldest channels parents a = record {
   detected =
       reported_of d
@@ -99,5 +97,5 @@ stepped_with d input reliable oldest channels parents a = record {
   predictions = a.predictions;
 }
 
-unfoldable pub stepped_of : DetectorPlace → Complex32 → Bool → Soft → Planes → List Float → List ℕ → Stepped
+unfoldable pub stepped_of : DetectorPlace → Complex32 → Bool → Option Soft → Planes → List Float → List ℕ → Stepped
 stepped_of d input reliable oldest channels costs parents = stepped_with d input reliable oldest channels parents (advanced_of channels costs input reliable)

@@ -1,15 +1,14 @@
 -- The detector without its tracker, over a list of steps: each step brings its own channels, reads the record of 31 steps before and puts its own in that
 -- place's row. Definitions only.
-use Rattle.std.specs.Prelude.{ℕ, zero, suc, Bool, List, [], ◌∷◌, get_or, set, replicate, Float}
+use Rattle.std.specs.Prelude.{ℕ, zero, suc, Bool, List, [], ◌∷◌, get_or, set, replicate, Float, Option, None}
 use Rattle.numbers.specs.Constants.{zero32}
 use Rattle.complex.specs.declared.Complex32.{Complex32}
 use Rattle.complex.specs.Planes.{Planes}
 use Rattle.answers.specs.declared.soft.Soft.{Soft}
-use Rattle.answers.specs.declared.soft.Soft.TheVariants.{Unrecorded}
+use Rattle.answers.specs.declared.walk.Dibit.{Dibit}
 use Rattle.answers.specs.declared.soft.Records.{Records}
-use Rattle.answers.specs.declared.walk.Answer.{Answer}
 use Rattle.sequence.specs.declared.step.DetectorPlace.{DetectorPlace}
-use Rattle.answers.specs.Observed.{slot_of, record_before}
+use Rattle.answers.specs.Observed.{record_before}
 use Rattle.sequence.specs.Sequence.{fresh_place, fresh_records, Stepped, stepped_of}
 
 pub record Skeleton : Type 0 where
@@ -29,18 +28,18 @@ pub record Step : Type 0 where
 
 -- ---- one step
 
-abbrev pub oldest_of : Skeleton → Soft
+abbrev pub oldest_of : Skeleton → Option Soft
 oldest_of d = record_before d.records.slots d.place.write
 
 -- what it leaves
 abbrev pub left_of : Skeleton → Step → Stepped
 left_of d i = stepped_of d.place i.value i.reliable (oldest_of d) i.channels d.costs d.parents
 
-abbrev pub answer_of : Skeleton → Step → Answer
+abbrev pub answer_of : Skeleton → Step → Option Dibit
 answer_of d i = (left_of d i).detected.answer
 
-unfoldable pub put_of : Records → ℕ → Soft → Records
-put_of records write soft = record { slots = set records.slots write (slot_of soft) }
+unfoldable pub put_of : Records → ℕ → Option Soft → Records
+put_of records write soft = record { slots = set records.slots write soft }
 
 -- the skeleton after it
 abbrev pub after_of : Skeleton → Step → Skeleton
@@ -57,7 +56,7 @@ abbrev pub ran_of : Skeleton → List Step → Skeleton
 ran_of d [] = d
 ran_of d (i ∷ is) = ran_of (after_of d i) is
 
-abbrev pub answers_of : Skeleton → List Step → List Answer
+abbrev pub answers_of : Skeleton → List Step → List (Option Dibit)
 answers_of d [] = []
 answers_of d (i ∷ is) = answer_of d i ∷ answers_of (after_of d i) is
 
@@ -66,7 +65,7 @@ answers_of d (i ∷ is) = answer_of d i ∷ answers_of (after_of d i) is
 -- a step's parents, by state, and its soft record
 pub record Made : Type 0 where
   pub row : List ℕ
-  pub soft : Soft
+  pub soft : Option Soft
 
 abbrev pub made_by : Skeleton → Step → Made
 made_by d i = record { row = (left_of d i).row; soft = (left_of d i).detected.soft }
@@ -77,7 +76,7 @@ history_of d before [] = before
 history_of d before (i ∷ is) = history_of (after_of d i) (made_by d i ∷ before) is
 
 abbrev nothing_made : Made
-nothing_made = record { row = []; soft = Unrecorded }
+nothing_made = record { row = []; soft = None }
 
 -- the k-th step of a history, newest first
 abbrev pub made_at : List Made → ℕ → Made

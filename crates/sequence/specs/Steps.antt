@@ -1,5 +1,5 @@
 -- Laws of the detector's step: what the proofs of its functions apply, and the ranges that a step keeps. Assumes nothing.
-use Rattle.std.specs.Prelude.{◌≡◌, ◌⊎◌, ℕ, ◌+◌, ◌*◌, ◌/◌, ◌%◌, ◌≤◌, ◌<◌, Bool, true, false, cond, List, ltb, length, set, Float}
+use Rattle.std.specs.Prelude.{◌≡◌, ◌⊎◌, ℕ, ◌+◌, ◌*◌, ◌/◌, ◌%◌, ◌≤◌, ◌<◌, Bool, true, false, cond, List, ltb, length, set, Float, Option, None, Some}
 use Rattle.std.proofs.Common.{ap, sym, ◌∙◌, subst, inl, inr, arith, lt→ltb, ltb→lt, get_or-set_other}
 use Rattle.std.proofs.Math.Logic.{⊎_elim}
 use Rattle.std.proofs.Math.Dec.{not_T}
@@ -14,11 +14,8 @@ use Rattle.complex.specs.Planes.{Planes, point_at}
 use Rattle.channels.specs.Channels.{taps_of, Parents}
 use Rattle.trellis.specs.Trellis.{Advance, advanced_of}
 use Rattle.arrivals.specs.Laws.{arrived_parents}
-use Rattle.answers.specs.declared.combine.Seen.{Seen}
 use Rattle.answers.specs.declared.soft.Soft.{Soft}
-use Rattle.answers.specs.declared.walk.Previous.{Previous}
-use Rattle.answers.specs.declared.walk.Previous.TheVariants.{Symbol}
-use Rattle.answers.specs.declared.walk.Answer.TheVariants.{Silent}
+use Rattle.answers.specs.declared.combine.Seen.{Seen}
 use Rattle.answers.specs.declared.walk.Walked.{Walked}
 use Rattle.sequence.specs.declared.step.DetectorPlace.{DetectorPlace}
 use Rattle.sequence.specs.declared.step.Detected.{Detected}
@@ -81,18 +78,18 @@ module _ (parents : List ℕ) (write : ℕ) (row : List ℕ) (in_ring : write < 
           (same_or_other w write)
 
 -- ---- ranges
-walked_earlier : (parents : List ℕ) (newest filled best : ℕ) (previous : Previous) (oldest : Soft) → Earlier previous → Earlier (walked_of parents newest filled best previous oldest).previous
+walked_earlier : (parents : List ℕ) (newest filled best : ℕ) (previous : Option ℕ) (oldest : Option Soft) → Earlier previous → Earlier (walked_of parents newest filled best previous oldest).previous
 unfolding walked_of
 walked_earlier parents newest filled best previous oldest h = go (ltb filled 31)
   where
-    go : (b : Bool) → Earlier (cond {A = Walked} b (record { previous = previous; answer = Silent }) (record { previous = Symbol (state_before_of parents newest best % 4); answer = decided_of (state_before_of parents newest best % 4) previous oldest })).previous
+    go : (b : Bool) → Earlier (cond {A = Walked} b (record { previous = previous; answer = None }) (record { previous = Some (state_before_of parents newest best % 4); answer = Some (decided_of (state_before_of parents newest best % 4) previous oldest) })).previous
     go true = h
     go false = omega arith
 
 more_most : (filled : ℕ) → one_more_of filled ≤ 32
 more_most filled = ⊎_elim (λ l. subst (λ (k : ℕ). k ≤ 32) (below_is filled 32 (filled + 1) 32 l) (omega arith)) (λ g. subst (λ (k : ℕ). k ≤ 32) (above_is filled 32 (filled + 1) 32 g) (omega arith)) (lt_or_ge filled 32)
 
-pub stepped_kept : (d : DetectorPlace) (input : Complex32) (reliable : Bool) (oldest : Soft) (c : Planes) (costs : List Float) (parents : List ℕ)
+pub stepped_kept : (d : DetectorPlace) (input : Complex32) (reliable : Bool) (oldest : Option Soft) (c : Planes) (costs : List Float) (parents : List ℕ)
     → Ranged d costs parents → RangedAfter (stepped_of d input reliable oldest c costs parents)
 unfolding stepped_of stepped_with reported_of advanced_of
 stepped_kept d input reliable oldest c costs parents h = (
@@ -114,7 +111,7 @@ pub asked_table : (parents : List ℕ) (write : ℕ) (row stored : List ℕ) →
 asked_table parents write row stored e w n t p = subst Table (sym e) (stored_table parents write row w n t p)
 
 -- ---- the step, from its parts
-pub step_meets : (d : DetectorPlace) (input : Complex32) (reliable : Bool) (oldest : Soft) (c : Planes) (costs : List Float) (parents : List ℕ)
+pub step_meets : (d : DetectorPlace) (input : Complex32) (reliable : Bool) (oldest : Option Soft) (c : Planes) (costs : List Float) (parents : List ℕ)
     (best : ℕ) (after : List Float) (row stored : List ℕ) (predictions : Planes) (t : Taps) (seen : Seen) (walked : Walked) (r : Detected)
     → ◌≡◌ {A = Advance} (record { best = best; costs = after; parents = row; predictions = predictions }) (advanced_of c costs input reliable)
     → t ≡ taps_of c (get_or row best 0)

@@ -1,5 +1,5 @@
 -- Theorems about a fresh detector and any list of inputs, NaN included: the bound of the costs, and which steps answer. Assumes nothing.
-use Rattle.std.specs.Prelude.{◌≡◌, refl, ℕ, suc, ◌+◌, ◌%◌, ◌≤◌, ◌<◌, Bool, List, [], ◌∷◌, length, get_or, Float}
+use Rattle.std.specs.Prelude.{◌≡◌, refl, ℕ, suc, ◌+◌, ◌%◌, ◌≤◌, ◌<◌, Bool, List, [], ◌∷◌, length, get_or, Float, Option, None, Some}
 use Rattle.std.proofs.Common.{ap, sym, ◌∙◌, subst, ⊎_elim, arith}
 use Rattle.std.proofs.lemmas.List.{length-replicate, get_or-replicate}
 use Rattle.std.specs.Float.{nan}
@@ -14,13 +14,8 @@ use Rattle.complex.specs.declared.Complex32.{Complex32}
 use Rattle.complex.specs.Planes.{Planes}
 use Rattle.sequence.specs.declared.step.DetectorPlace.{DetectorPlace}
 use Rattle.answers.specs.declared.soft.Soft.{Soft}
-use Rattle.answers.specs.declared.soft.Soft.TheVariants.{Unrecorded, Recorded}
-use Rattle.answers.specs.declared.walk.Previous.{Previous}
-use Rattle.answers.specs.declared.walk.Previous.TheVariants.{Unknown, Symbol}
-use Rattle.answers.specs.declared.walk.Answer.{Answer}
-use Rattle.answers.specs.declared.walk.Answer.TheVariants.{Silent, Dibit}
-use Rattle.answers.specs.Observed.{slot_of}
-use Rattle.answers.specs.Walk.{decided_of}
+use Rattle.answers.specs.declared.walk.Dibit.{Dibit}
+use Rattle.answers.specs.Walk.{zero_dibit, decided_of}
 use Rattle.sequence.specs.Sequence.{fresh_records, one_more_of, stepped_with, stepped_of}
 use Rattle.sequence.specs.Ranges.{Sound}
 use Rattle.sequence.specs.Steps.{below_is}
@@ -31,7 +26,7 @@ use Rattle.sequence.specs.History.{filled_next, end_of, answer_short, answer_lon
 abbrev Costs : Skeleton → Type 0
 Costs d = Good (λ s. get_or d.costs s nan)
 
-pub costs_stepped : (d : DetectorPlace) (input : Complex32) (reliable : Bool) (oldest : Soft) (c : Planes) (costs : List Float) (parents : List ℕ)
+pub costs_stepped : (d : DetectorPlace) (input : Complex32) (reliable : Bool) (oldest : Option Soft) (c : Planes) (costs : List Float) (parents : List ℕ)
     → Good (λ s. get_or costs s nan) → Good (λ s. get_or (stepped_of d input reliable oldest c costs parents).costs s nan)
 unfolding stepped_of stepped_with
 costs_stepped d input reliable oldest c costs parents g = good_step c costs input reliable g
@@ -61,23 +56,23 @@ fresh_sound = record {
     costs_size = length-replicate 64 zero32;
     parents_size = length-replicate {A = ℕ} 2048 0;
   };
-  slots = length-replicate 32 (slot_of Unrecorded);
+  slots = length-replicate {A = Option Soft} 32 None;
 }
 
 -- ---- which steps answer
-abbrev pub Known : Previous → Type 0
-Known Unknown = ⊥
-Known (Symbol k) = Unit
+abbrev pub Known : Option ℕ → Type 0
+Known None = ⊥
+Known (Some k) = Unit
 
-abbrev pub Told : Answer → Type 0
-Told Silent = ⊥
-Told (Dibit dibit high low) = Unit
+abbrev pub Told : Option Dibit → Type 0
+Told None = ⊥
+Told (Some dibit) = Unit
 
 -- after n steps: n are held, up to 32, and a symbol is known from the 32nd on
 pub record Counted (n : ℕ) (d : Skeleton) : Type 0 where
   pub fewer : n < 32 → d.place.filled ≡ n
   pub full : 32 ≤ n → d.place.filled ≡ 32
-  pub unknown : n < 32 → d.place.previous ≡ Unknown
+  pub unknown : n < 32 → d.place.previous ≡ None
   pub known : 32 ≤ n → Known d.place.previous
 
 pub counted_fresh : Counted 0 fresh_skeleton
@@ -106,10 +101,10 @@ module _ (n : ℕ) (d : Skeleton) (i : Step) (h : Counted n d) where
     known = λ l. subst Known (sym (previous_long d i (full_held (omega arith)))) tt;
   }
 
-  pub quiet : n < 31 → answer_of d i ≡ Silent
+  pub quiet : n < 31 → answer_of d i ≡ None
   quiet l = answer_short d i (held l)
 
-  pub decided : 31 ≤ n → answer_of d i ≡ decided_of (end_of d i % 4) d.place.previous (oldest_of d)
+  pub decided : 31 ≤ n → answer_of d i ≡ Some (decided_of (end_of d i % 4) d.place.previous (oldest_of d))
   decided l = answer_long d i (full_held l)
 
 counted_ran : (n : ℕ) (d : Skeleton) (is : List Step) → Counted n d → Counted (n + length is) (ran_of d is)
@@ -121,18 +116,13 @@ counted is = let e : 0 + length is ≡ length is = omega arith in subst (λ (z :
 
 -- THE THEOREM: steps 1 to 31 are silent, step 32 gives dibit 0 with [0, 0], and each later step one dibit
 module _ (is : List Step) (i : Step) where
-  pub first_silent : length is < 31 → answer_of (ran_of fresh_skeleton is) i ≡ Silent
+  pub first_silent : length is < 31 → answer_of (ran_of fresh_skeleton is) i ≡ None
   first_silent l = quiet (length is) (ran_of fresh_skeleton is) i (counted is) l
 
-  pub then_zero : length is ≡ 31 → answer_of (ran_of fresh_skeleton is) i ≡ Dibit 0 0 0
+  pub then_zero : length is ≡ 31 → answer_of (ran_of fresh_skeleton is) i ≡ Some zero_dibit
   then_zero e =
       decided (length is) (ran_of fresh_skeleton is) i (counted is) (omega arith)
-      ∙ ap (λ (z : Previous). decided_of (end_of (ran_of fresh_skeleton is) i % 4) z (oldest_of (ran_of fresh_skeleton is))) ((counted is).unknown (omega arith))
+      ∙ ap (λ (z : Option ℕ). Some (decided_of (end_of (ran_of fresh_skeleton is) i % 4) z (oldest_of (ran_of fresh_skeleton is)))) ((counted is).unknown (omega arith))
 
   pub later_told : 32 ≤ length is → Told (answer_of (ran_of fresh_skeleton is) i)
-  later_told l = subst Told (sym (decided (length is) (ran_of fresh_skeleton is) i (counted is) (omega arith))) (go _ (ran_of fresh_skeleton is).place.previous (oldest_of (ran_of fresh_skeleton is)) ((counted is).known l))
-    where
-      go : (current : ℕ) (previous : Previous) (soft : Soft) → Known previous → Told (decided_of current previous soft)
-      go current Unknown soft h = absurd h
-      go current (Symbol k) Unrecorded h = tt
-      go current (Symbol k) (Recorded high low a b) h = tt
+  later_told l = subst Told (sym (decided (length is) (ran_of fresh_skeleton is) i (counted is) (omega arith))) tt

@@ -1,9 +1,9 @@
 -- A detector with a tracker, whichever it is: the skeleton, and the memory of the tracker that makes each step's channels. Definitions only.
-use Rattle.std.specs.Prelude.{ℕ, Bool, List, [], ◌∷◌}
+use Rattle.std.specs.Prelude.{ℕ, Bool, List, [], ◌∷◌, Option}
 use Rattle.complex.specs.declared.Complex32.{Complex32}
 use Rattle.complex.specs.Planes.{Planes}
-use Rattle.answers.specs.declared.walk.Answer.{Answer}
 use Rattle.sequence.specs.Skeleton as Skeleton
+use Rattle.answers.specs.declared.walk.Dibit.{Dibit}
 
 -- what a symbol brings
 pub record Input : Type 0 where
@@ -28,7 +28,7 @@ module _ {M : Type 0} (t : Tracker M) where
   abbrev pub step_of : Detector M → Input → Skeleton.Step
   step_of d i = record { channels = t.channels d.memory i; value = i.value; reliable = i.reliable }
 
-  abbrev pub answer_of : Detector M → Input → Answer
+  abbrev pub answer_of : Detector M → Input → Option Dibit
   answer_of d i = Skeleton.answer_of d.skeleton (step_of d i)
 
   abbrev pub after_of : Detector M → Input → Detector M
@@ -41,7 +41,7 @@ module _ {M : Type 0} (t : Tracker M) where
   ran_of d [] = d
   ran_of d (i ∷ is) = ran_of (after_of d i) is
 
-  abbrev pub answers_of : Detector M → List Input → List Answer
+  abbrev pub answers_of : Detector M → List Input → List (Option Dibit)
   answers_of d [] = []
   answers_of d (i ∷ is) = answer_of d i ∷ answers_of (after_of d i) is
 

@@ -1,14 +1,13 @@
 -- THE DETECTOR WITH A TRACKER IS THE SKELETON over the channels that the tracker makes, whichever tracker it is; so what holds of the skeleton for every
 -- list of steps holds of each detector for every list of inputs, NaN included. Assumes nothing.
-use Rattle.std.specs.Prelude.{◌≡◌, refl, ℕ, suc, ◌%◌, ◌≤◌, ◌<◌, false, List, [], ◌∷◌, ◌++◌, length, get_or, replicate}
+use Rattle.std.specs.Prelude.{◌≡◌, refl, ℕ, suc, ◌%◌, ◌≤◌, ◌<◌, false, List, [], ◌∷◌, ◌++◌, length, get_or, replicate, Option, None, Some}
 use Rattle.std.proofs.Common.{ap, sym, ◌∙◌, subst}
 use Rattle.std.specs.Float.{nan}
 use Rattle.laws.specs.FloatSums.{In}
 use Rattle.trellis.specs.Metric.{c0}
 use Rattle.trellis.specs.Costs.{c48}
-use Rattle.answers.specs.declared.walk.Answer.{Answer}
-use Rattle.answers.specs.declared.walk.Answer.TheVariants.{Silent, Dibit}
-use Rattle.answers.specs.Walk.{decided_of}
+use Rattle.answers.specs.declared.walk.Dibit.{Dibit}
+use Rattle.answers.specs.Walk.{zero_dibit, decided_of}
 use Rattle.sequence.specs.Skeleton as Skeleton
 use Rattle.sequence.specs.Skeleton.{made_by, made_at, history_of, traced}
 use Rattle.sequence.specs.Ranges.{Sound}
@@ -31,7 +30,7 @@ module _ {M : Type 0} (t : Tracker M) where
 
   pub answers_are : (d : Detector M) (is : List Input) → answers_of t d is ≡ Skeleton.answers_of d.skeleton (steps_of t d is)
   answers_are d [] = refl
-  answers_are d (i ∷ is) = ap (λ (rest : List Answer). answer_of t d i ∷ rest) (answers_are (after_of t d i) is)
+  answers_are d (i ∷ is) = ap (λ (rest : List (Option Dibit)). answer_of t d i ∷ rest) (answers_are (after_of t d i) is)
 
   pub steps_length : (d : Detector M) (is : List Input) → length (steps_of t d is) ≡ length is
   steps_length d [] = refl
@@ -50,15 +49,16 @@ module _ {M : Type 0} (t : Tracker M) where
   -- that the step 31 before made
   pub answered : (d : Detector M) (is : List Input) (i : Input) → Sound d.skeleton → 31 ≤ length is
       → answer_of t (ran_of t d is) i
-      ≡ decided_of
+      ≡ Some
+      (decided_of
       (traced (made_by (ran_of t d is).skeleton (step_of t (ran_of t d is) i) ∷ history_of d.skeleton [] (steps_of t d is)) 31 (best_state (ran_of t d is).skeleton (step_of t (ran_of t d is) i)) % 4)
       (ran_of t d is).skeleton.place.previous
-      (made_at (history_of d.skeleton [] (steps_of t d is)) 30).soft
+      (made_at (history_of d.skeleton [] (steps_of t d is)) 30).soft)
   answered d is i h l =
       let s = step_of t (ran_of t d is) i in
       let made = history_of d.skeleton [] (steps_of t d is) in
       subst
-      (λ (k : Skeleton.Skeleton). Skeleton.answer_of k s ≡ decided_of (traced (made_by k s ∷ made) 31 (best_state k s) % 4) k.place.previous (made_at made 30).soft)
+      (λ (k : Skeleton.Skeleton). Skeleton.answer_of k s ≡ Some (decided_of (traced (made_by k s ∷ made) 31 (best_state k s) % 4) k.place.previous (made_at made 30).soft))
       (sym (ran_is d is))
       (History.answered d.skeleton (steps_of t d is) s h (subst (λ (n : ℕ). 31 ≤ n) (sym (steps_length d is)) l))
 
@@ -75,11 +75,11 @@ module _ {M : Type 0} (t : Tracker M) where
     steps_are : (n : ℕ) → length is ≡ n → length (steps_of t (fresh_with m) is) ≡ n
     steps_are n e = steps_length (fresh_with m) is ∙ e
 
-    pub first_silent : (i : Input) → length is < 31 → answer_of t (ran_of t (fresh_with m) is) i ≡ Silent
+    pub first_silent : (i : Input) → length is < 31 → answer_of t (ran_of t (fresh_with m) is) i ≡ None
     first_silent i l =
         answer_is (fresh_with m) is i ∙ Theorems.first_silent (steps_of t (fresh_with m) is) (step_of t (ran_of t (fresh_with m) is) i) (subst (λ (n : ℕ). n < 31) (sym (steps_length (fresh_with m) is)) l)
 
-    pub then_zero : (i : Input) → length is ≡ 31 → answer_of t (ran_of t (fresh_with m) is) i ≡ Dibit 0 0 0
+    pub then_zero : (i : Input) → length is ≡ 31 → answer_of t (ran_of t (fresh_with m) is) i ≡ Some zero_dibit
     then_zero i e = answer_is (fresh_with m) is i ∙ Theorems.then_zero (steps_of t (fresh_with m) is) (step_of t (ran_of t (fresh_with m) is) i) (steps_are 31 e)
 
     pub later_told : (i : Input) → 32 ≤ length is → Told (answer_of t (ran_of t (fresh_with m) is) i)
@@ -87,5 +87,5 @@ module _ {M : Type 0} (t : Tracker M) where
         subst Told (sym (answer_is (fresh_with m) is i))
         (Theorems.later_told (steps_of t (fresh_with m) is) (step_of t (ran_of t (fresh_with m) is) i) (subst (λ (n : ℕ). 32 ≤ n) (sym (steps_length (fresh_with m) is)) l))
 
-    pub case_14 : length is ≡ 40 → Unreliable is → answers_of t (fresh_with m) is ≡ replicate 31 Silent ++ replicate 9 (Dibit 0 0 0)
+    pub case_14 : length is ≡ 40 → Unreliable is → answers_of t (fresh_with m) is ≡ replicate 31 None ++ replicate 9 (Some zero_dibit)
     case_14 e u = answers_are (fresh_with m) is ∙ Idle.case_14 (steps_of t (fresh_with m) is) (steps_are 40 e) (unreliable_steps (fresh_with m) is u)

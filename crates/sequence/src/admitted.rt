@@ -5,14 +5,13 @@ ghost use Prim.Native.Nat as Nat;
 ghost use Rattle.sequence.specs.Admitted.{is_symbol, admitted_of, largest_of, are_states};
 
 use super::step::DetectorPlace;
-use answers::walk::Previous;
 use answers::{PARENTS, STEPS};
 
 // The previous symbol is below 4, where there is one.
-fn is_symbol(previous: Previous) -> bool
+fn is_symbol(previous: Option<usize>) -> bool
     ensures { result ≡ is_symbol previous }
 {
-    let Previous::Symbol(s) = previous else {
+    let Some(s) = previous else {
         return true;
     };
     s < 4
@@ -22,9 +21,8 @@ fn is_symbol(previous: Previous) -> bool
 pub fn is_admitted(d: DetectorPlace) -> bool
     ensures { result ≡ admitted_of d }
 {
-    let previous = d.previous;
     let ranges = (d.write < STEPS) & (d.filled <= STEPS);
-    ranges & is_symbol(previous)
+    ranges & is_symbol(d.previous)
 }
 
 fn most(a: u8, b: u8) -> u8
@@ -37,10 +35,8 @@ fn largest(parents: &[u8; PARENTS]) -> u8
     ensures { result ≡ largest_of parents.now }
 {
     let mut found = 0;
-    let mut i = 0;
-    while i < PARENTS {
-        found = most(found, parents[i]);
-        i += 1;
+    for parent in parents {
+        found = most(found, *parent);
     }
     found
 }

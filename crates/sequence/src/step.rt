@@ -5,8 +5,8 @@ ghost use Rattle.sequence.specs.Ranges.{Ranged, Roomy, RangedAfter};
 ghost use Rattle.sequence.specs.Lends.{Leaves};
 
 use answers::combine::{Seen, observed};
-use answers::soft::{Records, Slot, Soft, noise_after, record};
-use answers::walk::{Answer, Previous, Walked, store, walk};
+use answers::soft::{Records, Soft, noise_after, record};
+use answers::walk::{Dibit, Walked, store, walk};
 use answers::{PARENTS, STEPS};
 use channels::channel::taps_at;
 use channels::{CHANNELS, STATES};
@@ -21,7 +21,7 @@ use trellis::step::advance;
 pub struct DetectorPlace {
     pub write: usize,
     pub filled: usize,
-    pub previous: Previous,
+    pub previous: Option<usize>,
     pub combined: Option<Complex32>,
     pub noise: f32,
 }
@@ -31,8 +31,8 @@ pub struct DetectorPlace {
 #[derive(Clone, Copy)]
 pub struct Detected {
     pub place: DetectorPlace,
-    pub answer: Answer,
-    pub soft: Soft,
+    pub answer: Option<Dibit>,
+    pub soft: Option<Soft>,
     pub equalized: Option<Complex32>,
     pub phase: f32,
     pub power: f32,
@@ -45,7 +45,7 @@ pub fn fresh() -> DetectorPlace
     DetectorPlace {
         write: 0,
         filled: 0,
-        previous: Previous::Unknown,
+        previous: None,
         combined: None,
         noise: 0.1,
     }
@@ -62,10 +62,8 @@ pub fn fresh_channels() -> [f32; CHANNELS]
     ensures { result ≡ fresh_real }
 {
     let mut h = [0.0; CHANNELS];
-    let mut i = 0;
-    while i < CHANNELS {
+    for i in 0..CHANNELS {
         h[i] = fresh_tap(i);
-        i += 1;
     }
     h
 }
@@ -74,9 +72,7 @@ pub fn fresh_records() -> Records
     ensures { result ≡ fresh_records }
 {
     Records {
-        slots: [Slot {
-            soft: Soft::Unrecorded,
-        }; STEPS],
+        slots: [None; STEPS],
     }
 }
 
@@ -118,26 +114,20 @@ fn reported(
     requires { d.write < 32 }
     ensures { result ≡ reported_of d walked seen input prediction reliable }
 {
-    let before = d.combined;
-    let combined = seen.combined;
-    let equalized = seen.equalized;
-    let previous = walked.previous;
-    let answer = walked.answer;
     let residual = power(subtracted(input, prediction));
     let noise = noise_after(d.noise, residual, reliable);
-    let soft = record(combined, before, noise);
     let place = DetectorPlace {
         write: (d.write + 1) % 32,
         filled: one_more(d.filled),
-        previous,
-        combined,
+        previous: walked.previous,
+        combined: seen.combined,
         noise,
     };
     Detected {
         place,
-        answer,
-        soft,
-        equalized,
+        answer: walked.answer,
+        soft: record(seen.combined, d.combined, noise),
+        equalized: seen.equalized,
         phase: phase_between(input, prediction, reliable),
         power: power_told(residual, reliable),
     }
@@ -150,7 +140,7 @@ pub fn step(
     d: DetectorPlace,
     input: Complex32,
     reliable: bool,
-    oldest: Soft,
+    oldest: Option<Soft>,
     channel_real: &[f32; CHANNELS],
     channel_imaginary: &[f32; CHANNELS],
     costs: &mut [f32; STATES],
@@ -182,9 +172,7 @@ pub fn step(
     let prior = row[best];
     let survivor = taps_at(channel_real, channel_imaginary, prior as usize);
     let seen = observed(input, reliable, survivor, prior as u32);
-    let write = d.write;
-    let previous = d.previous;
-    store(parents, write, row);
-    let walked = walk(parents, write, d.filled, best, previous, oldest);
+    store(parents, d.write, row);
+    let walked = walk(parents, d.write, d.filled, best, d.previous, oldest);
     reported(d, walked, seen, input, prediction, reliable)
 }

@@ -6,4 +6,4 @@ pub returns-in_default : goal.returns-in_default
 returns-in_default c = put_silent (record { flags = c.args.flags.now; bytes = c.args.bytes.now }) c.args.at c.args.answer c.args.locked c.in_default.is
 
 pub returns : goal.returns
-returns c = put_dibit (record { flags = c.args.flags.now; bytes = c.args.bytes.now }) c.args.at c.args.answer c.args.locked c.in-Dibit.dibit c.in-Dibit.high c.in-Dibit.low c.in-Dibit.is
+returns c = put_dibit (record { flags = c.args.flags.now; bytes = c.args.bytes.now }) c.args.at c.args.answer c.args.locked _ c.in-Some.is

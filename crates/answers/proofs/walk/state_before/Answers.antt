@@ -7,14 +7,14 @@ use borrow.Author.Rules.{rules}
 use Rattle.answers.proofs.walk.state_before.Goals as goal
 
 pub loop-k-init : goal.loop-k-init
-loop-k-init c = (search rules, turns_start _ _, search rules)
+loop-k-init c = (turns_start _ _, search rules)
 
 pub overflow_cast-state : goal.overflow_cast-state
 overflow_cast-state c = omega (arith, c.requires.2.below (64 * ((c.args.newest + 32 - c.loop-k.k) % 32) + c.loop-k.state) (omega arith))
 
 pub loop-k-preserved : goal.loop-k-preserved
-loop-k-preserved c = (search rules, turns_step _ _ _ _ c.loop-k.invariant.1, c.requires.2.below (64 * ((c.args.newest + 32 - c.loop-k.k) % 32) + c.loop-k.state) (omega arith))
+loop-k-preserved c = (turns_step _ _ _ _ c.loop-k.invariant.0, c.requires.2.below (64 * ((c.args.newest + 32 - c.loop-k.k) % 32) + c.loop-k.state) (omega arith))
 
 pub returns : goal.returns
 unfolding state_before_of
-returns c = turns_end _ _ 31 _ _ c.loop-k.invariant.1 (search rules) (search rules)
+returns c = turns_end _ _ 31 _ _ c.loop-k.invariant.0 (search rules) (search rules)

@@ -6,11 +6,11 @@ use borrow.Author.Rules.{rules}
 use Rattle.answers.proofs.walk.store.Goals as goal
 
 pub loop-s-init : goal.loop-s-init
-loop-s-init c = (search rules, laid_start _ _ _)
+loop-s-init c = laid_start _ _ _
 
 pub loop-s-preserved : goal.loop-s-preserved
-loop-s-preserved c = (search rules, laid_step _ _ _ _ _ _ refl c.loop-s.invariant.1)
+loop-s-preserved c = laid_step _ _ _ _ _ _ refl c.loop-s.invariant
 
 pub returns : goal.returns
 unfolding stored_of
-returns c = laid_end _ _ _ 64 _ _ c.loop-s.invariant.1 (search rules) (search rules)
+returns c = laid_end _ _ _ 64 _ _ c.loop-s.invariant (search rules) (search rules)

@@ -8,4 +8,4 @@ pub returns-in_default : goal.returns-in_default
 returns-in_default c = sym (ap (with_record_of _) c.in_default.is)
 
 pub returns : goal.returns
-returns c = answer_is _ _ _ _ _ _ _ _ c.in-Recorded.is c.agreed.ensures c.agreed-2.ensures
+returns c = answer_is _ _ _ _ _ c.in-Some.is c.agreed.ensures c.agreed-2.ensures

@@ -7,12 +7,12 @@ step-c-requires c =
     let given = c.requires in
     given.carrier
 
-pub push-view_after-requires : goal.push-view_after-requires
-push-view_after-requires c =
+pub push-view-requires : goal.push-view-requires
+push-view-requires c =
     let given = c.requires in
     given.view.head
 
 pub returns : goal.returns
 returns c =
     let step_is = c.step-c.ensures in
-    decided_is _ _ _ _ _ _ step_is.0 c.push-view_after.ensures
+    decided_is _ _ _ _ _ _ step_is.0 c.push-view.ensures

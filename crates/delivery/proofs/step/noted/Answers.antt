@@ -11,4 +11,4 @@ pub bounds-reliabilities-written-2 : goal.bounds-reliabilities-written-2
 bounds-reliabilities-written-2 c = simp length-set (omega (arith, c.requires.reliabilities))
 
 pub returns : goal.returns
-returns c = noted_dibit _ _ _ _ _ c.in-Dibit.is
+returns c = noted_dibit _ _ _ c.in-Some.is

@@ -9,6 +9,6 @@ use Rattle.delivery.proofs.step.told.Goals as goal
 pub returns : goal.returns
 returns c =
     let args = c.args in
-    let counted_is = c.counted-symbols.ensures in
-    let counted2_is = c.counted-locked.ensures in
-    let h : SFits w32 args.p.profile = search rules in told_is _ _ _ _ _ _ _ _ (to_z-of_z h) counted_is counted2_is c.is_rearranged.ensures c.labelled-label.ensures
+    let counted_is = c.counted.ensures in
+    let counted2_is = c.counted-2.ensures in
+    let h : SFits w32 args.p.profile = search rules in told_is _ _ _ _ _ _ _ _ (to_z-of_z h) counted_is counted2_is c.is_rearranged.ensures c.labelled.ensures

@@ -7,10 +7,10 @@ use borrow.Author.Rules.{rules}
 use Rattle.second.proofs.prior.inverses.Goals as goal
 
 pub loop-k-init : goal.loop-k-init
-loop-k-init c = (search rules, search rules, fill_start _ _)
+loop-k-init c = fill_start _ _
 
 pub loop-k-preserved : goal.loop-k-preserved
-loop-k-preserved c = (search rules, search rules, fill_step number_at _ _ _ _ (rw c.number.ensures) c.loop-k.invariant.2)
+loop-k-preserved c = fill_step number_at _ _ _ _ (rw c.number.ensures) c.loop-k.invariant
 
 pub returns : goal.returns
-returns c = inverses_are _ (fill_end _ _ 8192 _ _ nan c.loop-k.invariant.2 (search rules) (search rules) (search rules))
+returns c = inverses_are _ (fill_end _ _ 8192 _ _ nan c.loop-k.invariant (search rules) (search rules) (search rules))

@@ -3,4 +3,4 @@ use Rattle.sequence.specs.AdmittedLaws.{symbol_is}
 use Rattle.sequence.proofs.admitted.is_symbol.Goals as goal
 
 pub returns : goal.returns
-returns c = symbol_is _ _ c.in-Symbol.is
+returns c = symbol_is _ _ c.in-Some.is

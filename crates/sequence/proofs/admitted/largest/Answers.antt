@@ -5,12 +5,12 @@ use Rattle.sequence.specs.Admitted.{largest_of}
 use borrow.Author.Rules.{rules}
 use Rattle.sequence.proofs.admitted.largest.Goals as goal
 
-pub loop-i-init : goal.loop-i-init
-loop-i-init c = (search rules, turns_start _ _)
+pub loop-parent-init : goal.loop-parent-init
+loop-parent-init c = turns_start _ _
 
-pub loop-i-preserved : goal.loop-i-preserved
-loop-i-preserved c = (search rules, c.most-found.ensures ∙ turns_step _ _ _ _ c.loop-i.invariant.1)
+pub loop-parent-preserved : goal.loop-parent-preserved
+loop-parent-preserved c = c.most-found.ensures ∙ turns_step _ _ _ _ c.loop-parent.invariant
 
 pub returns : goal.returns
 unfolding largest_of
-returns c = turns_end _ _ _ _ _ c.loop-i.invariant.1 (search rules) (search rules)
+returns c = turns_end _ _ _ _ _ c.loop-parent.invariant (search rules) (search rules)

@@ -6,11 +6,11 @@ use borrow.Author.Rules.{rules}
 use Rattle.sequence.proofs.step.fresh_channels.Goals as goal
 
 pub loop-i-init : goal.loop-i-init
-loop-i-init c = (search rules, search rules, fill_start _ _)
+loop-i-init c = fill_start _ _
 
 pub loop-i-preserved : goal.loop-i-preserved
-loop-i-preserved c = (search rules, search rules, fill_step fresh_tap _ _ _ _ (rw c.fresh_tap.ensures) c.loop-i.invariant.2)
+loop-i-preserved c = fill_step fresh_tap _ _ _ _ (rw c.fresh_tap.ensures) c.loop-i.invariant
 
 pub returns : goal.returns
 unfolding fresh_real
-returns c = fill_end _ _ 256 _ _ nan c.loop-i.invariant.2 (search rules) (search rules) (search rules)
+returns c = fill_end _ _ 256 _ _ nan c.loop-i.invariant (search rules) (search rules) (search rules)

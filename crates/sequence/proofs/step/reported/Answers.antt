@@ -5,7 +5,7 @@ use Rattle.sequence.proofs.step.reported.Goals as goal
 pub returns : goal.returns
 unfolding reported_of
 returns c =
-    let record_is = c.record-soft.ensures in
+    let record_is = c.record.ensures in
     let noise_after_is = c.noise_after-noise.ensures in
     let power_is = c.power-residual.ensures in
     let subtracted_is = c.subtracted.ensures in
