@@ -1,20 +1,13 @@
 -- The numbers of an inverse before and after a step, by the places of a room. Definitions that contracts of this crate and of those above it cite.
 use Rattle.std.specs.Prelude.{ℕ, ◌%◌, cond, List, ltb, Float}
 use Rattle.std.specs.Float.{binary32}
-use Rattle.std.specs.Float.Ieee.{of_bits, add, sub, mul, div}
+use Rattle.std.specs.Float.Ieee.{of_bits}
 use Rattle.complex.specs.declared.Complex32.{Complex32}
 use Rattle.complex.specs.Complex.{difference_of, product_of}
 use Rattle.least_squares.specs.Lanes.{pair_at}
 use Rattle.least_squares.specs.LeastSquares.{memory, over_of, mean_of, tap_doubt, drift_doubt}
 
--- a number less gain times row, over 0.8, part by part
-abbrev pub reduced_real : Float → Float → Float → Float → Float → Float
-reduced_real p gr gi rr ri = div binary32 (sub binary32 p (sub binary32 (mul binary32 gr rr) (mul binary32 gi ri))) memory
-
-abbrev pub reduced_imaginary : Float → Float → Float → Float → Float → Float
-reduced_imaginary p gr gi rr ri = div binary32 (sub binary32 p (add binary32 (mul binary32 gr ri) (mul binary32 gi rr))) memory
-
--- the one at the place a of the room, of the gain at u and the row at v
+-- a number less gain times row, over 0.8: the one at the place a of the room, of the gain at u and the row at v
 abbrev pub reduced_in : List Float → List Float → List Float → ℕ → ℕ → ℕ → Complex32
 reduced_in w gain row a u v = over_of (difference_of (pair_at 1024 w a) (product_of (pair_at 128 gain u) (pair_at 128 row v))) memory
 

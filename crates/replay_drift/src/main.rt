@@ -13,6 +13,7 @@ use drift_tracker::DRIFTS;
 use drift_tracker::follow::follow;
 use drift_tracker::onward::advance;
 use least_squares::ALL;
+use least_squares::limits::prior_of;
 use numbers::bits::float32;
 use replay::{fill, mixed_plane, next, print_line, word};
 
@@ -44,23 +45,11 @@ fn decoded(head: &[u8]) -> Request
     }
 }
 
-// The number e = 8 i + j of a fresh inverse: 4 for the taps and 0.01 for the drifts on the diagonal.
-fn fresh_number(e: usize) -> f32 {
-    if e % 9 != 0 {
-        0.0
-    } else if e < 36 {
-        4.0
-    } else {
-        0.01
-    }
-}
-
+// The inverses of all states before the first step: the real parts, as each begins anew, and no imaginary ones.
 fn fresh_inverses() -> [f32; ALL] {
     let mut inverse = [0.0; ALL];
-    let mut k = 0;
-    while k < 4096 {
-        inverse[k] = fresh_number(k % 256 / 4);
-        k += 1;
+    for k in 0..4096 {
+        inverse[k] = prior_of(k % 256 / 4);
     }
     inverse
 }
@@ -68,17 +57,14 @@ fn fresh_inverses() -> [f32; ALL] {
 // Numbers of the inverses, as many as the run says: the place in the high half of a word, the pattern in
 // the low half.
 fn set_places(count: u64, inverse: &mut [f32; ALL])
-    requires { length inverse.old ≡ 8192 }
     ensures { length inverse.new ≡ 8192 }
 {
-    let mut left = count;
-    while left > 0 {
+    for _ in 0..count {
         let mut bytes = [0u8; 8];
         io::read_full(0, &mut bytes);
         let w = word(&bytes, 0);
         let place = (w / 0x1_0000_0000 % 8192) as usize;
         inverse[place] = float32((w % 0x1_0000_0000) as u32);
-        left -= 1;
     }
 }
 
@@ -92,15 +78,12 @@ fn parent(state: usize, seed: u64) -> u8
 
 // Parents from the seed, and the seed after them.
 fn fill_parents(s: u64, parents: &mut [u8; STATES]) -> u64
-    requires { length parents.old ≡ 64 }
     ensures { Parents parents.new }
 {
     let mut seed = s;
-    let mut i = 0;
-    while i < STATES {
+    for i in 0..STATES {
         seed = next(seed);
         parents[i] = parent(i, seed);
-        i += 1;
     }
     seed
 }

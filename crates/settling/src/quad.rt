@@ -1,35 +1,42 @@
 // The inverses of four lanes after a step: each number above the diagonal and its conjugate across it, and
 // the diagonal, where both are one.
 ghost use Rattle.std.specs.Prelude.{◌≡◌, ◌+◌, ◌*◌, ◌/◌, ◌%◌, ◌<◌, ◌≤◌};
+ghost use Rattle.least_squares.specs.LeastSquares.{conjugate_of};
 ghost use Rattle.settling.specs.Layout.{four_of, turned, pair_turn, quad_at, settled_number};
 
-use least_squares::entry::{diagonal_imaginary, diagonal_real, settled_imaginary, settled_real};
+use complex::Complex32;
+use least_squares::entry::{diagonal, settled};
 use least_squares::{ALL, EIGHTS, INVERSES};
+
+fn conjugated(z: Complex32) -> Complex32
+    ensures { result ≡ conjugate_of z }
+{
+    Complex32 {
+        real: z.real,
+        imaginary: -z.imaginary,
+    }
+}
 
 // Four numbers side by side, from a place on.
 fn put_four(
-    x0: f32,
-    x1: f32,
-    x2: f32,
-    x3: f32,
-    y0: f32,
-    y1: f32,
-    y2: f32,
-    y3: f32,
+    x: Complex32,
+    y: Complex32,
+    z: Complex32,
+    w: Complex32,
     at: usize,
     next: &mut [f32; ALL],
 )
     requires { at + 3 < 4096 }
-    ensures { next.new ≡ four_of (four_of next.old at x0 x1 x2 x3) (at + 4096) y0 y1 y2 y3 }
+    ensures { next.new ≡ four_of (four_of next.old at x.real y.real z.real w.real) (at + 4096) x.imaginary y.imaginary z.imaginary w.imaginary }
 {
-    next[at] = x0;
-    next[at + 1] = x1;
-    next[at + 2] = x2;
-    next[at + 3] = x3;
-    next[at + 4096] = y0;
-    next[at + 4096 + 1] = y1;
-    next[at + 4096 + 2] = y2;
-    next[at + 4096 + 3] = y3;
+    next[at] = x.real;
+    next[at + 1] = y.real;
+    next[at + 2] = z.real;
+    next[at + 3] = w.real;
+    next[at + 4096] = x.imaginary;
+    next[at + 4096 + 1] = y.imaginary;
+    next[at + 4096 + 2] = z.imaginary;
+    next[at + 4096 + 3] = w.imaginary;
 }
 
 // Four lanes from `from` on, at (i, j) and across. All is read before anything is written: the compiler then
@@ -57,16 +64,19 @@ fn settle_pair(
     let v = 16 * j + from;
     let here = base + 32 * i + 4 * j;
     let over = base + 32 * j + 4 * i;
-    let x0 = settled_real(w, gain, row, a, b, u, v);
-    let y0 = settled_imaginary(w, gain, row, a, b, u, v);
-    let x1 = settled_real(w, gain, row, a + 1, b + 1, u + 1, v + 1);
-    let y1 = settled_imaginary(w, gain, row, a + 1, b + 1, u + 1, v + 1);
-    let x2 = settled_real(w, gain, row, a + 2, b + 2, u + 2, v + 2);
-    let y2 = settled_imaginary(w, gain, row, a + 2, b + 2, u + 2, v + 2);
-    let x3 = settled_real(w, gain, row, a + 3, b + 3, u + 3, v + 3);
-    let y3 = settled_imaginary(w, gain, row, a + 3, b + 3, u + 3, v + 3);
-    put_four(x0, x1, x2, x3, y0, y1, y2, y3, here, next);
-    put_four(x0, x1, x2, x3, -y0, -y1, -y2, -y3, over, next);
+    let z0 = settled(w, gain, row, a, b, u, v);
+    let z1 = settled(w, gain, row, a + 1, b + 1, u + 1, v + 1);
+    let z2 = settled(w, gain, row, a + 2, b + 2, u + 2, v + 2);
+    let z3 = settled(w, gain, row, a + 3, b + 3, u + 3, v + 3);
+    put_four(z0, z1, z2, z3, here, next);
+    put_four(
+        conjugated(z0),
+        conjugated(z1),
+        conjugated(z2),
+        conjugated(z3),
+        over,
+        next,
+    );
 }
 
 // Four lanes at (i, i), one number each.
@@ -89,15 +99,11 @@ fn settle_diagonal(
     let u = 16 * i + from;
     let far = u + 128;
     let here = base + 36 * i;
-    let x0 = diagonal_real(w, gain, row, a, u, far);
-    let y0 = diagonal_imaginary(w, gain, row, a, u, far);
-    let x1 = diagonal_real(w, gain, row, a + 1, u + 1, far + 1);
-    let y1 = diagonal_imaginary(w, gain, row, a + 1, u + 1, far + 1);
-    let x2 = diagonal_real(w, gain, row, a + 2, u + 2, far + 2);
-    let y2 = diagonal_imaginary(w, gain, row, a + 2, u + 2, far + 2);
-    let x3 = diagonal_real(w, gain, row, a + 3, u + 3, far + 3);
-    let y3 = diagonal_imaginary(w, gain, row, a + 3, u + 3, far + 3);
-    put_four(x0, x1, x2, x3, y0, y1, y2, y3, here, next);
+    let z0 = diagonal(w, gain, row, a, u, far);
+    let z1 = diagonal(w, gain, row, a + 1, u + 1, far + 1);
+    let z2 = diagonal(w, gain, row, a + 2, u + 2, far + 2);
+    let z3 = diagonal(w, gain, row, a + 3, u + 3, far + 3);
+    put_four(z0, z1, z2, z3, here, next);
 }
 
 // Four lanes, all 64 numbers of each.

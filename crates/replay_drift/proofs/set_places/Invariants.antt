@@ -1,10 +1,7 @@
--- `replay_drift::set_places` is safe and ends: fewer places are left at each turn.
+-- `replay_drift::set_places` is safe: the array keeps its length.
 use mathlib.Core.Path.{◌≡◌}
 use lib.ListN.{length}
 use Rattle.replay_drift.proofs.set_places.Given as goal
 
-abbrev pub invariant-loop-left : goal.invariant-loop-left
-invariant-loop-left l = length l.inverse ≡ 8192
-
-abbrev pub decreases-loop-left : goal.decreases-loop-left
-decreases-loop-left l = l.left
+abbrev pub invariant-loop : goal.invariant-loop
+invariant-loop l = length l.inverse ≡ 8192
