@@ -31,15 +31,12 @@ fn print_dibits(dibits: &[u8; 2052], reliabilities: &[u8; 4104], count: usize) {
     }
 }
 
-fn mixed_64(h: u64, plane: [f32; 64]) -> u64 {
-    mixed_plane(h, &plane)
-}
-
 // The peak keeper holds the last 64 values from the front, and a block makes 52 at most.
 fn values(r: Receiver) -> u64 {
-    let real = r.keeper_real;
-    let imaginary = r.keeper_imaginary;
-    mixed_64(mixed_64(0, real), imaginary)
+    mixed_plane(
+        mixed_plane(0, &r.planes.recovery.keeper.real),
+        &r.planes.recovery.keeper.imaginary,
+    )
 }
 
 fn heard(r: Receiver, table: &[f32], block: &[f32], told: bool) -> Taken {

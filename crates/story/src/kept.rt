@@ -1,5 +1,6 @@
 // What the front still holds of the neighbour.
 use super::decimated::{last_value, unlike_fresh};
+use complex::Planes;
 use receiver_state::state::Receiver;
 
 const OUT: i32 = 1;
@@ -33,11 +34,11 @@ pub fn told_off(r: Receiver) {
 }
 
 // How many of the ring's first values are not 0.
-fn not_zero(real: &[f32; 592], imaginary: &[f32; 592], count: usize) -> u64 {
+fn not_zero(ring: &Planes<592>, count: usize) -> u64 {
     let mut n: u64 = 0;
     let mut i = 0;
     while i < 592 && i < count {
-        n = plus(n, !is_zero(real[i], imaginary[i]));
+        n = plus(n, !is_zero(ring.real[i], ring.imaginary[i]));
         i += 1;
     }
     n
@@ -46,13 +47,11 @@ fn not_zero(real: &[f32; 592], imaginary: &[f32; 592], count: usize) -> u64 {
 fn print_ring(r: Receiver) {
     let front = r.front;
     let resampler = front.resampler;
-    let real = r.ring_real;
-    let imaginary = r.ring_imaginary;
     if resampler.arm <= 576 {
         let places = resampler.arm + 16;
         print(
             b"silence over: values in the ring that are not 0: ",
-            not_zero(&real, &imaginary, places),
+            not_zero(&r.ring, places),
         );
         print(b" of ", places as u64);
         io::write_all(OUT, b"\n");
