@@ -14,7 +14,9 @@ use clock::ClockPlace;
 use complex::Planes;
 use numbers::bits::{float, float32};
 use peak::KeeperPlace;
-use replay::{fill, mixed, mixed_bytes, mixed_flag, mixed_float32, mixed_plane, print_line, word};
+use replay::{
+    fill, mixed, mixed_bytes, mixed_flag, mixed_float32, mixed_plane, print_line, record, word,
+};
 use replay_detector::{
     fill_parents, made_place, made_point, made_records, mixed_place, mixed_point, mixed_records,
     started,
@@ -406,24 +408,8 @@ fn answer(q: Request)
     run(&mut r, q.rows);
 }
 
-// Whether a run was read, and answered.
-fn answered() -> bool {
-    let mut head = [0u8; 104];
-    let got = io::read_full(0, &mut head);
-    if got < HEAD {
-        return false;
-    }
-    answer(decoded(&head));
-    true
-}
-
 fn main() {
-    let mut left: u64 = 1000000;
-    while left > 0 {
-        if answered() {
-            left -= 1;
-        } else {
-            left = 0;
-        }
+    for head in std::iter::from_fn(record::<HEAD>).take(1_000_000) {
+        answer(decoded(&head));
     }
 }

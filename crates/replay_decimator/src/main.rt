@@ -7,7 +7,7 @@ ghost use Rattle.std.specs.Prelude.{◌+◌, ◌<◌, ◌≤◌, length};
 
 use complex::Complex32;
 use decimator::{Decimator, Parts, Stages};
-use replay::{any, mixed, mixed_decimator, mixed_float32, print_line, word};
+use replay::{any, mixed, mixed_decimator, mixed_float32, print_line, record, word};
 
 // Three words from a place of a run's head on.
 fn stages(head: &[u8], at: usize) -> Stages
@@ -74,24 +74,16 @@ fn digest(d0: Decimator, count: u64) -> u64
     mixed_decimator(h, d)
 }
 
-// Whether a run was read, and answered.
-fn answered() -> bool {
-    let mut head = [0u8; 120];
-    let got = io::read_full(0, &mut head);
-    if got < 120 {
-        return false;
-    }
-    let d = decoded(&head);
+// A run, where its decimator may be run.
+fn answer(head: &[u8; 120]) {
+    let d = decoded(head);
     if d.counter < d.decimation {
-        print_line(digest(d, word(&head, 112)), 16);
+        print_line(digest(d, word(head, 112)), 16);
     }
-    true
 }
 
 fn main() {
-    for _ in 0..1000000 {
-        if !answered() {
-            break;
-        }
+    for head in std::iter::from_fn(record::<120>).take(1_000_000) {
+        answer(&head);
     }
 }

@@ -15,7 +15,7 @@ use drift_tracker::onward::advance;
 use least_squares::ALL;
 use least_squares::limits::prior_of;
 use numbers::bits::float32;
-use replay::{fill, mixed_plane, next, print_line, word};
+use replay::{fill, mixed_plane, next, print_line, record, word};
 
 // A run's head: seven words.
 const HEAD: usize = 56;
@@ -169,19 +169,9 @@ fn run(
     requires { Sized real.old imaginary.old drift.old inverse.old }
 {
     let mut seed = s;
-    let mut left = q.steps;
-    while left > 0 {
-        seed = step(
-            q.asked,
-            q.inputs,
-            seed,
-            &mut *real,
-            &mut *imaginary,
-            &mut *drift,
-            &mut *inverse,
-        );
+    for _ in 0..q.steps {
+        seed = step(q.asked, q.inputs, seed, real, imaginary, drift, inverse);
         tell(real, imaginary, drift, inverse);
-        left -= 1;
     }
 }
 
@@ -198,24 +188,8 @@ fn answer(q: Request) {
     run(q, d, &mut real, &mut imaginary, &mut drift, &mut inverse);
 }
 
-// Whether a run was read, and answered.
-fn answered() -> bool {
-    let mut head = [0u8; HEAD];
-    let got = io::read_full(0, &mut head);
-    if got < HEAD {
-        return false;
-    }
-    answer(decoded(&head));
-    true
-}
-
 fn main() {
-    let mut left: u64 = 1000000;
-    while left > 0 {
-        if answered() {
-            left -= 1;
-        } else {
-            left = 0;
-        }
+    for head in std::iter::from_fn(record::<HEAD>).take(1_000_000) {
+        answer(decoded(&head));
     }
 }

@@ -12,8 +12,8 @@ use numbers::bits::float;
 use numbers::compare::is_nan;
 use oscillator::Oscillator;
 use replay::{
-    mixed, mixed_decimator, mixed_float, mixed_float32, mixed_plane, next, print_line, sample_part,
-    word,
+    mixed, mixed_decimator, mixed_float, mixed_float32, mixed_plane, next, print_line, record,
+    sample_part, word,
 };
 use resampler::design::TABLE;
 use resampler::pass::{PLACES, Resampler};
@@ -206,21 +206,8 @@ fn answer(q: Request) {
     }
 }
 
-// Whether a run was read, and answered.
-fn answered() -> bool {
-    let mut head = [0u8; 56];
-    let got = io::read_full(0, &mut head);
-    if got < 56 {
-        return false;
-    }
-    answer(decoded(&head));
-    true
-}
-
 fn main() {
-    for _ in 0..1000000 {
-        if !answered() {
-            break;
-        }
+    for head in std::iter::from_fn(record::<56>).take(1_000_000) {
+        answer(decoded(&head));
     }
 }

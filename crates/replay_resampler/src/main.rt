@@ -10,7 +10,9 @@ ghost use Rattle.replay_resampler.specs.Held.{Held};
 use complex::Complex32;
 use decimator::Decimator;
 use numbers::bits::float;
-use replay::{mixed, mixed_float, mixed_float32, mixed_plane, next, print_line, sample_part, word};
+use replay::{
+    mixed, mixed_float, mixed_float32, mixed_plane, next, print_line, record, sample_part, word,
+};
 use resampler::design::TABLE;
 use resampler::dimensions::Dimensions;
 use resampler::pass::{PLACES, Passed, Resampler};
@@ -218,21 +220,8 @@ fn answer(q: Request) {
     }
 }
 
-// Whether a run was read, and answered.
-fn answered() -> bool {
-    let mut head = [0u8; 64];
-    let got = io::read_full(0, &mut head);
-    if got < 64 {
-        return false;
-    }
-    answer(decoded(&head));
-    true
-}
-
 fn main() {
-    for _ in 0..1000000 {
-        if !answered() {
-            break;
-        }
+    for head in std::iter::from_fn(record::<64>).take(1_000_000) {
+        answer(decoded(&head));
     }
 }

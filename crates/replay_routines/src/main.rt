@@ -3,7 +3,7 @@
 #![tactic(auto)]
 
 use numbers::bits;
-use replay::{mixed_float, mixed_float32, print_line, word};
+use replay::{mixed_float, mixed_float32, print_line, record, word};
 use routines::angle::arctangent;
 use routines::circle::{cosine, sine, sine_cosine};
 use routines::hypotenuse::hypotenuse;
@@ -26,24 +26,8 @@ fn digest(a: u64, b: u64, c: u64) -> u64 {
     mixed_float32(h5, hypotenuse(y, x))
 }
 
-// Whether a record was read, and answered.
-fn answered() -> bool {
-    let mut record = [0u8; 24];
-    let got = io::read_full(0, &mut record);
-    if got < 24 {
-        return false;
-    }
-    print_line(
-        digest(word(&record, 0), word(&record, 8), word(&record, 16)),
-        16,
-    );
-    true
-}
-
 fn main() {
-    for _ in 0..1000000 {
-        if !answered() {
-            break;
-        }
+    for r in std::iter::from_fn(record::<24>).take(1_000_000) {
+        print_line(digest(word(&r, 0), word(&r, 8), word(&r, 16)), 16);
     }
 }

@@ -2,8 +2,5 @@
 use Rattle.replay_drift.specs.Sized.{Sized}
 use Rattle.replay_drift.proofs.run.Given as goal
 
-abbrev pub invariant-loop-left : goal.invariant-loop-left
-invariant-loop-left l = Sized l.real l.imaginary l.drift l.inverse
-
-abbrev pub decreases-loop-left : goal.decreases-loop-left
-decreases-loop-left l = l.left
+abbrev pub invariant-loop : goal.invariant-loop
+invariant-loop l = Sized l.real l.imaginary l.drift l.inverse
