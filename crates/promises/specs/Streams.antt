@@ -95,6 +95,9 @@ one_more n l = rw (lt-ltb n 32 (omega arith))
 more_full : (n : ℕ) → 31 ≤ n → 31 ≤ one_more_of n
 more_full n l = ⊎_elim (λ b. subst (λ (k : ℕ). 31 ≤ k) (sym (ap (λ (t : Bool). cond t (n + 1) 32) (lt-ltb n 32 b))) (omega arith)) (λ g. subst (λ (k : ℕ). 31 ≤ k) (sym (ap (λ (t : Bool). cond t (n + 1) 32) (le-ltb n 32 g))) (omega arith)) (lt_or_ge n 32)
 
+decided_told : (current : ℕ) (previous : Option ℕ) (soft : Option Soft) → is_dibit (Some (walk.decided_of current previous soft)) ≡ true
+decided_told current previous soft = refl
+
 module _ (s : SecondState) (z : Complex32) (reliable : Bool) where
   fill_silent : (n : ℕ) → n < 31 → Filling n s → (second.decided_of s z reliable).answer ≡ None
   fill_silent n l h = let f = h.filled in answer_is s z reliable ∙ answer_short (skeleton_of s) (step_of s z reliable) (omega arith)

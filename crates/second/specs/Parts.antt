@@ -1,8 +1,10 @@
 -- The second stream's floats: the one array taken apart, and put together part by part. Assumes nothing.
-use Rattle.std.specs.Prelude.{◌≡◌, refl, ℕ, ◌+◌, ◌≤◌, length, drop, Float}
+use Rattle.std.specs.Prelude.{◌≡◌, refl, ℕ, ◌+◌, ◌≤◌, length, get_or, drop, Float}
 use Rattle.std.proofs.Common.{ap, sym, ◌∙◌, arith, length-append, length-take, length-drop, length-take-le, take_all, take_at, drop_at, take-add, drop-drop}
 use mathlib.Core.List.{List, [], ◌++◌, append_assoc, append-nil}
 use Rattle.std.proofs.Math.ListN.{take}
+use Rattle.std.specs.Float.{nan}
+use Rattle.laws.specs.Places.{fill, fill_end, upto_is}
 use Rattle.drift_tracker.specs.Drift.{Memory}
 use Rattle.drift_detector.specs.Ranges.{Sized}
 use Rattle.second.specs.Second.{memory_of, costs_of, joined_of}
@@ -32,6 +34,12 @@ module _ {A : Type 0} where
       ap (λ (t : List A). t ++ (p ++ drop n (drop a x))) first
       ∙ ap (λ (t : List A). done ++ (p ++ t)) last
       ∙ sym (append_assoc done p (drop (a + n) l))
+
+-- a loop that stores each number of a list in another of its length leaves that list
+pub copied_is : (from to m : List Float) (k : ℕ) → m ≡ fill (λ i. get_or from i nan) k to → k ≤ length to → length to ≤ k → length from ≡ length to → m ≡ from
+copied_is from to m k e h g s =
+    fill_end (λ i. get_or from i nan) k (length to) to m nan e h g refl
+    ∙ sym (upto_is (λ i. get_or from i nan) (length to) nan from s (λ i l. refl))
 
 -- ---- the parts' lengths
 pub memory_sized : (m : List Float) → 9280 ≤ length m → Sized (memory_of m)
