@@ -114,11 +114,10 @@ fn records_at(words: &[u64; WORDS], from: usize) -> Records
         soft: Soft::Unrecorded,
     };
     let mut records = Records { slots: [none; 32] };
-    let mut i = 0;
-    while i < 32 {
-        let soft = soft_at(words, from + 5 * i);
-        records.slots[i] = Slot { soft };
-        i += 1;
+    for i in 0..32 {
+        records.slots[i] = Slot {
+            soft: soft_at(words, from + 5 * i),
+        };
     }
     records
 }
@@ -255,20 +254,16 @@ fn word_at(words: &[u64; WORDS], at: usize) -> u64 {
 fn take_plane(words: &[u64; WORDS], from: usize, plane: &mut [f32])
     requires { from < 18262 }
 {
-    let mut i = 0;
-    while i < plane.len() {
+    for i in 0..plane.len() {
         plane[i] = float32(low(word_at(words, from + i)));
-        i += 1;
     }
 }
 
 fn take_parents(words: &[u64; WORDS], from: usize, parents: &mut [u8; PARENTS])
     requires { from + 2047 < 18262 }
 {
-    let mut i = 0;
-    while i < PARENTS {
+    for i in 0..PARENTS {
         parents[i] = (words[from + i] % 256) as u8;
-        i += 1;
     }
 }
 
@@ -278,72 +273,32 @@ pub fn decoded(words: &[u64; WORDS]) -> Receiver {
     r.front = front_at(words);
     r.chain = chain_at(words);
     r.records = records_at(words, 4549);
-    let mut ring_real = [0.0; 592];
-    take_plane(words, 59, &mut ring_real);
-    r.ring_real = ring_real;
-    let mut ring_imaginary = [0.0; 592];
-    take_plane(words, 651, &mut ring_imaginary);
-    r.ring_imaginary = ring_imaginary;
-    let mut keeper_real = [0.0; 64];
-    take_plane(words, 1243, &mut keeper_real);
-    r.keeper_real = keeper_real;
-    let mut keeper_imaginary = [0.0; 64];
-    take_plane(words, 1307, &mut keeper_imaginary);
-    r.keeper_imaginary = keeper_imaginary;
-    let mut clock_real = [0.0; 256];
-    take_plane(words, 1371, &mut clock_real);
-    r.clock_real = clock_real;
-    let mut clock_imaginary = [0.0; 256];
-    take_plane(words, 1627, &mut clock_imaginary);
-    r.clock_imaginary = clock_imaginary;
-    let mut weight_real = [0.0; 21];
-    take_plane(words, 1883, &mut weight_real);
-    r.weight_real = weight_real;
-    let mut weight_imaginary = [0.0; 21];
-    take_plane(words, 1904, &mut weight_imaginary);
-    r.weight_imaginary = weight_imaginary;
-    let mut channel_real = [0.0; 256];
-    take_plane(words, 1925, &mut channel_real);
-    r.channel_real = channel_real;
-    let mut channel_imaginary = [0.0; 256];
-    take_plane(words, 2181, &mut channel_imaginary);
-    r.channel_imaginary = channel_imaginary;
-    let mut costs = [0.0; 64];
-    take_plane(words, 2437, &mut costs);
-    r.costs = costs;
-    let mut view_real = [0.0; 1024];
-    take_plane(words, 4709, &mut view_real);
-    r.view_real = view_real;
-    let mut view_imaginary = [0.0; 1024];
-    take_plane(words, 5733, &mut view_imaginary);
-    r.view_imaginary = view_imaginary;
-    let mut parents = [0; PARENTS];
-    take_parents(words, 2501, &mut parents);
-    r.parents = parents;
+    take_plane(words, 59, &mut r.ring_real);
+    take_plane(words, 651, &mut r.ring_imaginary);
+    take_plane(words, 1243, &mut r.keeper_real);
+    take_plane(words, 1307, &mut r.keeper_imaginary);
+    take_plane(words, 1371, &mut r.clock_real);
+    take_plane(words, 1627, &mut r.clock_imaginary);
+    take_plane(words, 1883, &mut r.weight_real);
+    take_plane(words, 1904, &mut r.weight_imaginary);
+    take_plane(words, 1925, &mut r.channel_real);
+    take_plane(words, 2181, &mut r.channel_imaginary);
+    take_plane(words, 2437, &mut r.costs);
+    take_plane(words, 4709, &mut r.view_real);
+    take_plane(words, 5733, &mut r.view_imaginary);
+    take_parents(words, 2501, &mut r.parents);
     r.second = second_at(words);
-    let mut memory = [0.0; MEMORY];
-    take_plane(words, 6934, &mut memory);
-    r.memory = memory;
-    let mut ancestors = [0; PARENTS];
-    take_parents(words, 16214, &mut ancestors);
-    r.ancestors = ancestors;
+    take_plane(words, 6934, &mut r.memory);
+    take_parents(words, 16214, &mut r.ancestors);
     r
 }
 
 // ---- numbers to words
 
-fn wide8(x: u8) -> u64 {
-    x as u64
-}
-
-fn wide32(x: u32) -> u64 {
-    x as u64
-}
-
 fn put_flag(words: &mut [u64; WORDS], at: usize, flag: bool)
     requires { at < 18262 }
 {
-    words[at] = if flag { 1 } else { 0 };
+    words[at] = u64::from(flag);
 }
 
 fn put_float(words: &mut [u64; WORDS], at: usize, x: f64)
@@ -355,7 +310,7 @@ fn put_float(words: &mut [u64; WORDS], at: usize, x: f64)
 fn put_float32(words: &mut [u64; WORDS], at: usize, x: f32)
     requires { at < 18262 }
 {
-    words[at] = pattern32(x) as u64;
+    words[at] = u64::from(pattern32(x));
 }
 
 fn profile_word(p: i32) -> u64 {
@@ -429,12 +384,8 @@ fn put_soft(words: &mut [u64; WORDS], at: usize, s: Soft)
 fn put_records(words: &mut [u64; WORDS], from: usize, records: Records)
     requires { from + 159 < 18262 }
 {
-    let mut i = 0;
-    while i < 32 {
-        let slot = records.slots[i];
-        let soft = slot.soft;
-        put_soft(words, from + 5 * i, soft);
-        i += 1;
+    for i in 0..32 {
+        put_soft(words, from + 5 * i, records.slots[i].soft);
     }
 }
 
@@ -455,12 +406,10 @@ fn put_three(words: &mut [u64; WORDS], at: usize, first: u64, second: u64, third
 }
 
 fn put_decimator(words: &mut [u64; WORDS], d: Decimator) {
-    let integrators = d.integrators;
-    let combs = d.combs;
-    let a = integrators.real;
-    let b = integrators.imaginary;
-    let x = combs.real;
-    let y = combs.imaginary;
+    let a = d.integrators.real;
+    let b = d.integrators.imaginary;
+    let x = d.combs.real;
+    let y = d.combs.imaginary;
     words[7] = d.decimation as u64;
     words[8] = d.counter as u64;
     put_three(words, 9, a.first, a.second, a.third);
@@ -506,12 +455,10 @@ fn put_loop(words: &mut [u64; WORDS], at: usize, l: Loop)
 fn put_detector(words: &mut [u64; WORDS], at: usize, d: DetectorPlace)
     requires { at + 10 < 18262 }
 {
-    let previous = d.previous;
-    let combined = d.combined;
     words[at] = d.write as u64;
     words[at + 1] = d.filled as u64;
-    put_previous(words, at + 2, previous);
-    put_observation(words, at + 4, combined);
+    put_previous(words, at + 2, d.previous);
+    put_observation(words, at + 4, d.combined);
     put_three(words, at + 7, 0, 0, 0);
     put_float32(words, at + 10, d.noise);
 }
@@ -524,8 +471,7 @@ fn put_carrier(words: &mut [u64; WORDS], at: usize, c: CarrierPlace)
 }
 
 fn put_view(words: &mut [u64; WORDS], v: ViewPlace) {
-    let previous = v.previous;
-    put_observation(words, 52, previous);
+    put_observation(words, 52, v.previous);
     words[55] = v.head as u64;
     words[56] = v.count as u64;
 }
@@ -550,53 +496,19 @@ fn put_chain(words: &mut [u64; WORDS], c: ChainPlace) {
 fn put_plane(words: &mut [u64; WORDS], from: usize, plane: &[f32])
     requires { from < 18262 }
 {
-    let mut i = 0;
-    while i < plane.len() {
+    for i in 0..plane.len() {
         let at = from + i;
         if at < WORDS {
-            words[at] = wide32(pattern32(plane[i]));
+            words[at] = u64::from(pattern32(plane[i]));
         }
-        i += 1;
     }
-}
-
-fn put_592(words: &mut [u64; WORDS], from: usize, plane: [f32; 592])
-    requires { from < 18262 }
-{
-    put_plane(words, from, &plane);
-}
-
-fn put_64(words: &mut [u64; WORDS], from: usize, plane: [f32; 64])
-    requires { from < 18262 }
-{
-    put_plane(words, from, &plane);
-}
-
-fn put_256(words: &mut [u64; WORDS], from: usize, plane: [f32; 256])
-    requires { from < 18262 }
-{
-    put_plane(words, from, &plane);
-}
-
-fn put_21(words: &mut [u64; WORDS], from: usize, plane: [f32; 21])
-    requires { from < 18262 }
-{
-    put_plane(words, from, &plane);
-}
-
-fn put_1024(words: &mut [u64; WORDS], from: usize, plane: [f32; 1024])
-    requires { from < 18262 }
-{
-    put_plane(words, from, &plane);
 }
 
 fn put_parents(words: &mut [u64; WORDS], from: usize, parents: &[u8; PARENTS])
     requires { from + 2047 < 18262 }
 {
-    let mut i = 0;
-    while i < PARENTS {
-        words[from + i] = wide8(parents[i]);
-        i += 1;
+    for i in 0..PARENTS {
+        words[from + i] = u64::from(parents[i]);
     }
 }
 
@@ -613,40 +525,24 @@ pub fn put_second(
     put_parents(words, 16214, ancestors);
 }
 
-pub fn encode(r: Receiver, words: &mut [u64; WORDS]) {
+pub fn encode(r: &Receiver, words: &mut [u64; WORDS]) {
     words[0] = r.total;
     put_front(words, r.front);
     put_chain(words, r.chain);
     put_records(words, 4549, r.records);
-    let ring_real = r.ring_real;
-    put_592(words, 59, ring_real);
-    let ring_imaginary = r.ring_imaginary;
-    put_592(words, 651, ring_imaginary);
-    let keeper_real = r.keeper_real;
-    put_64(words, 1243, keeper_real);
-    let keeper_imaginary = r.keeper_imaginary;
-    put_64(words, 1307, keeper_imaginary);
-    let clock_real = r.clock_real;
-    put_256(words, 1371, clock_real);
-    let clock_imaginary = r.clock_imaginary;
-    put_256(words, 1627, clock_imaginary);
-    let weight_real = r.weight_real;
-    put_21(words, 1883, weight_real);
-    let weight_imaginary = r.weight_imaginary;
-    put_21(words, 1904, weight_imaginary);
-    let channel_real = r.channel_real;
-    put_256(words, 1925, channel_real);
-    let channel_imaginary = r.channel_imaginary;
-    put_256(words, 2181, channel_imaginary);
-    let costs = r.costs;
-    put_64(words, 2437, costs);
-    let view_real = r.view_real;
-    put_1024(words, 4709, view_real);
-    let view_imaginary = r.view_imaginary;
-    put_1024(words, 5733, view_imaginary);
-    let parents = r.parents;
-    put_parents(words, 2501, &parents);
-    let memory = r.memory;
-    let ancestors = r.ancestors;
-    put_second(words, r.second, &memory, &ancestors);
+    put_plane(words, 59, &r.ring_real);
+    put_plane(words, 651, &r.ring_imaginary);
+    put_plane(words, 1243, &r.keeper_real);
+    put_plane(words, 1307, &r.keeper_imaginary);
+    put_plane(words, 1371, &r.clock_real);
+    put_plane(words, 1627, &r.clock_imaginary);
+    put_plane(words, 1883, &r.weight_real);
+    put_plane(words, 1904, &r.weight_imaginary);
+    put_plane(words, 1925, &r.channel_real);
+    put_plane(words, 2181, &r.channel_imaginary);
+    put_plane(words, 2437, &r.costs);
+    put_plane(words, 4709, &r.view_real);
+    put_plane(words, 5733, &r.view_imaginary);
+    put_parents(words, 2501, &r.parents);
+    put_second(words, r.second, &r.memory, &r.ancestors);
 }
