@@ -1,22 +1,16 @@
 -- A call has one answer: answers of equal outcome are equal, with the state and the lent memory that they leave, so two that meet the call's contract for the same
 -- arguments are the same. Assumes nothing.
-use Rattle.std.specs.Prelude.{◌≡◌, refl, List, ℕ, eqb, ℤ, Float, Result, Ok, Err, ⊤}
-use Rattle.std.proofs.Common.{sym, ap, ◌∙◌, true≢false}
+use Rattle.std.specs.Prelude.{◌≡◌, refl, List, ℕ, ℤ, Float, Result, Ok, Err, ⊤}
+use Rattle.std.proofs.Common.{sym, ap, ◌∙◌}
 use Rattle.receiver_state.specs.declared.state.Receiver.{Receiver}
 use Rattle.receiver.specs.declared.block.Block.{Block}
 use Rattle.receiver.specs.declared.reading.Points.{Points}
 use Rattle.checks.specs.declared.refusal.Refusal.{Refusal}
-use Rattle.checks.specs.Refusal.{number_of, verdict_of}
-use Rattle.checks.specs.Ways.{number_not}
-use Rattle.checks.proofs.Laws.{number_tells}
+use Rattle.checks.proofs.Laws.{number_tells, apart, verdict_tells}
 use Rattle.receiver.specs.Setup.{SetUp, setup_now, setup_of}
 use Rattle.receiver.specs.Block.{Rooms, Outcome, outcome_now, block_of}
 use Rattle.receiver.specs.Enable.{Enabling, enabled_now, enable_of}
 use Rattle.receiver.specs.Reading.{Reading, points_now, reading_of}
-
--- no refusal has the number of an accepted call
-apart : (e : Refusal) → 0 ≡ number_of e → ⊥
-apart e h = true≢false (ap (λ (n : ℕ). eqb n 0) h ∙ number_not e)
 
 -- ---- setup: the verdict with the state, and the table
 pub setup_unique : (x y : Result Receiver Refusal) (table other : List Float) → setup_now x table ≡ setup_now y other → (x ≡ y) × (table ≡ other)
@@ -65,14 +59,8 @@ pub one_block : (r : Receiver) (table samples : List Float) (lent : Rooms) (x y 
 one_block r table samples lent x y s t ds rs es qs fs us gs vs p q = block_unique x y s t ds rs es qs fs us gs vs (p ∙ sym q)
 
 -- ---- an enabling: the verdict, and the state
-verdict_unique : (x y : Result ⊤ Refusal) → verdict_of x ≡ verdict_of y → x ≡ y
-verdict_unique (Ok a) (Ok b) e = refl
-verdict_unique (Ok a) (Err d) e = absurd (apart d e)
-verdict_unique (Err d) (Ok b) e = absurd (apart d (sym e))
-verdict_unique (Err c) (Err d) e = ap (λ (r : Refusal). Err r) (number_tells c d e)
-
 pub enabling_unique : (x y : Result ⊤ Refusal) (r s : Receiver) → enabled_now x r ≡ enabled_now y s → (x ≡ y) × (r ≡ s)
-enabling_unique x y r s e = (verdict_unique x y (ap (λ (n : Enabling). n.number) e), ap (λ (n : Enabling). n.receiver) e)
+enabling_unique x y r s e = (verdict_tells x y (ap (λ (n : Enabling). n.number) e), ap (λ (n : Enabling). n.receiver) e)
 
 -- so two that meet the contract of `enable` are the same
 pub one_enabling : (r : Receiver) (x y : Result ⊤ Refusal) (s t : Receiver) → enabled_now x s ≡ enable_of r → enabled_now y t ≡ enable_of r → (x ≡ y) × (s ≡ t)
