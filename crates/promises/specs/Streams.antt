@@ -10,6 +10,7 @@ use Rattle.complex.specs.declared.Complex32.{Complex32}
 use Rattle.answers.specs.declared.soft.Soft.{Soft}
 use Rattle.answers.specs.declared.walk.Dibit.{Dibit}
 use Rattle.answers.specs.Walk as walk
+use Rattle.answers.specs.Walk.{zero_dibit}
 use Rattle.answers.specs.Observed.{record_before}
 use Rattle.answer_row.specs.AnswerRow.{is_dibit}
 use Rattle.labels.specs.Labels.{rearranges, labelled_of}
