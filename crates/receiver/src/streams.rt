@@ -4,7 +4,7 @@ ghost use Rattle.receiver.specs.Block.{rooms_of, NoneLent, room_of, outcome_now,
 ghost use Rattle.receiver.specs.Admitted.{admitted_of};
 
 use super::block::Block;
-use chain::Chained;
+use chain::{ChainPlanes, Chained};
 use checks::block::judged;
 use checks::refusal::Refusal;
 use oscillator::is_conjugated;
@@ -16,6 +16,28 @@ fn room(both: bool, first: usize, other: usize) -> usize
     ensures { result ≡ room_of both first other }
 {
     if both { first.min(other) } else { first }
+}
+
+// An array is as long as its type says. Nothing runs here: the call is made for what it ensures.
+fn sized<T: Copy, const N: usize>(xs: &[T; N])
+    ensures { length xs.now ≡ N }
+{}
+
+// The planes of a state are as long as `run` asks, which nothing else says of arrays deep behind a reference.
+fn planes_sized(planes: &ChainPlanes)
+    ensures real { length planes.now.recovery.keeper.real ≡ 64 }
+    ensures imaginary { length planes.now.recovery.keeper.imaginary ≡ 64 }
+    ensures channel_real { length planes.now.decisions.channels.real ≡ 256 }
+    ensures channel_imaginary { length planes.now.decisions.channels.imaginary ≡ 256 }
+    ensures costs { length planes.now.decisions.costs ≡ 64 }
+    ensures parents { length planes.now.decisions.parents ≡ 2048 }
+{
+    sized(&planes.recovery.keeper.real);
+    sized(&planes.recovery.keeper.imaginary);
+    sized(&planes.decisions.channels.real);
+    sized(&planes.decisions.channels.imaginary);
+    sized(&planes.decisions.costs);
+    sized(&planes.decisions.parents);
 }
 
 // Takes a block: pairs of floats in; dibits, and two reliabilities for each, out. The steps work on the
@@ -59,6 +81,7 @@ pub fn take_any(
         },
         from: 0,
     };
+    planes_sized(&r.planes);
     let t = run(
         first,
         is_conjugated(r.chain.profile),

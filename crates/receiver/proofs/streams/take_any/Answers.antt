@@ -1,7 +1,5 @@
 -- `take_any` meets its contract: an accepted block is what `run` leaves of the state's planes, and a refused one changes nothing.
-use mathlib.Core.Path.{◌≡◌}
 use native.Mathlib.Omega.{arith}
-use lib.ListN.{length}
 use mir.Syntax.{w32}
 use mir.Val.{SFits}
 use mir.Facts.{to_z-of_z}
@@ -13,39 +11,7 @@ use Rattle.receiver.specs.Block.{rooms_of}
 use Rattle.receiver.specs.Accepted.{take_asks, take_total}
 use Rattle.receiver.proofs.BlockLaws.{run_asks, run_admitted, judged_rooms, take_refused, taken_is}
 use borrow.Author.Rules.{rules}
-use Rattle.receiver.proofs.streams.take_any.Lts as lts
-use Rattle.receiver.proofs.streams.take_any.Reads as reads
-use Rattle.receiver.proofs.streams.take_any.Tie as tie
 use Rattle.receiver.proofs.streams.take_any.Goals as goal
-
--- what is known where the code begins
-abbrev Start : Type 0
-Start = lts.Start tie.the-claims reads.Pre reads.Post tie.handed_clauses
-
--- the planes of the state that is lent have the lengths of their types
-keeper_real : (entry : Start) → length entry.args.r.now.planes.recovery.keeper.real ≡ 64
-keeper_real entry = search rules
-
-keeper_imaginary : (entry : Start) → length entry.args.r.now.planes.recovery.keeper.imaginary ≡ 64
-keeper_imaginary entry = search rules
-
-channel_real : (entry : Start) → length entry.args.r.now.planes.decisions.channels.real ≡ 256
-channel_real entry = search rules
-
-channel_imaginary : (entry : Start) → length entry.args.r.now.planes.decisions.channels.imaginary ≡ 256
-channel_imaginary entry = search rules
-
-costs : (entry : Start) → length entry.args.r.now.planes.decisions.costs ≡ 64
-costs entry = search rules
-
-parents : (entry : Start) → length entry.args.r.now.planes.decisions.parents ≡ 2048
-parents entry = search rules
-
-memory : (entry : Start) → length entry.args.r.now.memory ≡ 9280
-memory entry = search rules
-
-ancestors : (entry : Start) → length entry.args.r.now.ancestors ≡ 2048
-ancestors entry = search rules
 
 pub returns-in_err-overload-clause-same : goal.returns-in_err-overload-clause-same
 returns-in_err-overload-clause-same c =
@@ -60,8 +26,8 @@ run-t-requires c =
     let lent = rooms_of c.args.both c.args.dibits.now c.args.reliabilities.now c.args.others.now c.args.other_reliabilities.now in
     let judged = judged_rooms c.args.r.now _ _ lent (Ok c.in_ok-overload.overload) _ _ c.room.ensures c.room-2.ensures c.in_ok-overload.ensures in
     let ready = take_asks c.args.r.now _ _ _ _ _ judged in
-    let entry : Start = record { lifetimes = c.lifetimes; args = c.args; blocks = c.blocks; well_formed = c.well_formed; requires = c.requires } in
-    run_asks c.args.r.now _ _ _ lent ready c.requires (λ on. memory entry) (ancestors entry) (keeper_real entry) (keeper_imaginary entry) (channel_real entry) (channel_imaginary entry) (costs entry) (parents entry)
+    let sizes = c.planes_sized.ensures in
+    run_asks c.args.r.now _ _ _ lent ready c.requires (λ on. search rules) (search rules) sizes.real sizes.imaginary sizes.channel_real sizes.channel_imaginary sizes.costs sizes.parents
 
 pub overflow_add-r : goal.overflow_add-r
 overflow_add-r c = let total = take_total _ _ _ _ _ _ _ _ _ _ _ c.in_ok-overload.ensures in omega (arith, total)
