@@ -74,8 +74,7 @@ fn detect(
     let mut place = fresh;
     let mut records = sequence::step::fresh_records();
     let mut seed: u64 = 14;
-    let mut left: u64 = 40;
-    while left > 0 {
+    for _ in 0..40 {
         seed = next(seed);
         let write = place.write;
         let d = lms_detector::step(
@@ -89,10 +88,8 @@ fn detect(
             &mut *parents,
         );
         records = stored(records, write, d);
-        let answer = d.answer;
-        t = tallied(t, answer);
+        t = tallied(t, d.answer);
         place = d.place;
-        left -= 1;
     }
     t
 }

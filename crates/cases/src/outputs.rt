@@ -17,13 +17,11 @@ fn pass(fresh: Resampler, table: &[f32; 18432])
     let mut imaginary = [0.0; 592];
     let mut r = fresh;
     let mut seed: u64 = 13;
-    let mut left: u64 = 14;
-    while left > 0 {
+    for k in 0..14u64 {
         seed = next(seed);
         let p = resampler::pass::resampled(r, point(seed), table, &mut real, &mut imaginary);
         number(p.count as u64);
         r = p.resampler;
-        left -= 1;
     }
 }
 

@@ -1,26 +1,24 @@
 // Cases 11 and 12: what a setup answers.
-use super::say::{number, text};
-use checks::refusal::number as number_of;
+use super::say::{number, text, verdict};
 
-// The refusal's number, or 0, and the dimensions in the state that came back.
+// The refusal's number, or 0, and the dimensions of the state that came back, or zeros.
 #[derive(Clone, Copy)]
 struct Answer {
-    refusal: u32,
+    refusal: u64,
     decimation: usize,
     arm: usize,
 }
 
 fn set_up(rate: f64, offset: f64, table: &mut [f32]) -> Answer {
     let s = receiver::setup::set_up(rate, offset, 0, table);
-    let verdict = s.verdict;
-    let r = s.receiver;
-    let front = r.front;
-    let decimator = front.decimator;
-    let resampler = front.resampler;
+    let (decimation, arm) = match s {
+        Ok(r) => (r.front.decimator.decimation, r.front.resampler.arm),
+        Err(_) => (0, 0),
+    };
     Answer {
-        refusal: number_of(verdict),
-        decimation: decimator.decimation,
-        arm: resampler.arm,
+        refusal: verdict(s),
+        decimation,
+        arm,
     }
 }
 
@@ -31,13 +29,13 @@ pub fn dimensions() {
     let a = set_up(383999.0, 0.0, &mut ample);
     let b = set_up(383999.0, 0.0, &mut room);
     text(b"11 rate 383999, table room 18432: refusal");
-    number(a.refusal as u64);
+    number(a.refusal);
     text(b", d");
     number(a.decimation as u64);
     text(b", c");
     number(a.arm as u64);
     text(b"; room 16384: refusal");
-    number(b.refusal as u64);
+    number(b.refusal);
     text(b"\n");
 }
 
@@ -47,10 +45,10 @@ pub fn offsets() {
     let a = set_up(9600.0, 599.5, &mut table);
     let b = set_up(9600.0, 600.0, &mut table);
     text(b"12 rate 9600, offset 599.5: refusal");
-    number(a.refusal as u64);
+    number(a.refusal);
     text(b", c");
     number(a.arm as u64);
     text(b"; offset 600: refusal");
-    number(b.refusal as u64);
+    number(b.refusal);
     text(b"\n");
 }

@@ -1,5 +1,5 @@
 -- The checks of each call, in their order. Definitions only.
-use Rattle.std.specs.Prelude.{ℕ, ◌+◌, ◌*◌, ◌/◌, ◌%◌, ◌^◌, Bool, cond, not, ◌||◌, List, [], ◌∷◌, eqb, ltb, length, Float}
+use Rattle.std.specs.Prelude.{ℕ, ◌+◌, ◌*◌, ◌/◌, ◌%◌, ◌^◌, Bool, cond, not, ◌||◌, List, [], ◌∷◌, eqb, ltb, length, Float, Result, Ok, Err}
 use Rattle.std.specs.Float.{binary64}
 use Rattle.std.specs.Float.Ieee.{of_bits, add, div, lt, le}
 use Rattle.numbers.specs.Constants.{two64}
@@ -10,10 +10,9 @@ use Rattle.chain.specs.declared.ChainPlace.{ChainPlace}
 use Rattle.front.specs.declared.FrontPlace.{FrontPlace}
 use Rattle.second.specs.declared.Second.{Second}
 use Rattle.samples.specs.Samples.{count_of, finite_of, overload_of}
-use Rattle.checks.specs.declared.refusal.Verdict.{Verdict}
+use Rattle.checks.specs.declared.refusal.Refusal.{Refusal}
 use Rattle.checks.specs.Refusal.{number_of, Check, first_of}
 use Rattle.checks.specs.Admitted.{state_fits}
-use Rattle.checks.specs.declared.block.Checked.{Checked}
 
 -- ---- a setup
 
@@ -66,16 +65,14 @@ abbrev pub block_checks : ℕ → FrontPlace → ChainPlace → Second → List 
 block_checks total front chain second parents ancestors xs table dibits reliabilities =
     record { number = 7; applies = not (state_fits total front chain second parents ancestors) } ∷ later_checks total front.resampler.arm xs table dibits reliabilities
 
-abbrev pub refused_by : Verdict → Checked
-refused_by v = record { verdict = v; overload = 0 }
-
 -- the refusal's number or 0, and in an accepted block the overload
 pub record Judged : Type 0 where
   pub number : ℕ
   pub overload : ℕ
 
-abbrev pub judged_now : Checked → Judged
-judged_now c = record { number = number_of c.verdict; overload = c.overload }
+abbrev pub judged_now : Result ℕ Refusal → Judged
+judged_now (Ok overload) = record { number = 0; overload = overload }
+judged_now (Err r) = record { number = number_of r; overload = 0 }
 
 abbrev pub judged_by : ℕ → List Float → Judged
 judged_by number xs = record { number = number; overload = cond (eqb number 0) (overload_of xs) 0 }

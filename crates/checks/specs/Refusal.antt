@@ -1,10 +1,9 @@
 -- The refusals' numbers, as docs/SPECIFICATION.md has them. Definitions only.
-use Rattle.std.specs.Prelude.{ℕ, Bool, cond, List, [], ◌∷◌}
-use Rattle.checks.specs.declared.refusal.Verdict.{Verdict}
-use Rattle.checks.specs.declared.refusal.Verdict.TheVariants.{Accepted, Rate, Offset, Table, Count, Sample, Room, State, File}
+use Rattle.std.specs.Prelude.{ℕ, Bool, cond, List, [], ◌∷◌, Result, Ok, Err}
+use Rattle.checks.specs.declared.refusal.Refusal.{Refusal}
+use Rattle.checks.specs.declared.refusal.Refusal.TheVariants.{Rate, Offset, Table, Count, Sample, Room, State, File}
 
-abbrev pub number_of : Verdict → ℕ
-number_of Accepted = 0
+abbrev pub number_of : Refusal → ℕ
 number_of Rate = 1
 number_of Offset = 2
 number_of Table = 3
@@ -13,6 +12,11 @@ number_of Sample = 5
 number_of Room = 6
 number_of State = 7
 number_of File = 8
+
+-- a call's answer by its number: the refusal's, or 0 where it is accepted
+abbrev pub verdict_of : {A : Type 0} → Result A Refusal → ℕ
+verdict_of (Ok x) = 0
+verdict_of (Err r) = number_of r
 
 -- a refusal's number, and whether it applies
 pub record Check : Type 0 where

@@ -1,5 +1,5 @@
 -- The checks, by their ways out: what the code gives there is what the definition says. Assumes nothing.
-use Rattle.std.specs.Prelude.{◌≡◌, Bool, not, ◌||◌, List, ℕ, ◌+◌, ◌*◌, ◌/◌, ◌%◌, ◌^◌, ◌≤◌, ◌<◌, T, ltb, eqb, length, Float}
+use Rattle.std.specs.Prelude.{◌≡◌, Bool, not, ◌||◌, List, ℕ, ◌+◌, ◌*◌, ◌/◌, ◌%◌, ◌^◌, ◌≤◌, ◌<◌, T, ltb, eqb, length, Float, Result, Ok, Err}
 use Rattle.std.proofs.Math.Path.{refl}
 use Rattle.std.proofs.Common.{sym, ◌∙◌, inl, inr, true≢false, arith, lt-ltb, le-ltb, ltb-false}
 use Rattle.std.proofs.Math.Bool.{true, false}
@@ -12,16 +12,29 @@ use Rattle.laws.specs.Ring.{lt_or_ge}
 use Rattle.laws.specs.FloatOrder.{not_lt→le}
 use Rattle.numbers.specs.Numbers.{is_finite}
 use Rattle.resampler.specs.Admitted.{AdmittedRate, lowest_rate, highest_rate}
-use Rattle.checks.specs.declared.refusal.Verdict.TheVariants.{Accepted, Table, Count, Sample, Room, State}
+use Rattle.checks.specs.declared.refusal.Refusal.{Refusal}
+use Rattle.checks.specs.declared.refusal.Refusal.TheVariants.{Rate, Offset, Table, Count, Sample, Room, State, File}
 use Rattle.chain.specs.declared.ChainPlace.{ChainPlace}
 use Rattle.front.specs.declared.FrontPlace.{FrontPlace}
 use Rattle.second.specs.declared.Second.{Second}
 use Rattle.samples.specs.declared.Level.{Level}
-use Rattle.checks.specs.declared.block.Checked.{Checked}
 use Rattle.samples.specs.Samples.{count_of, finite_of, measured_of}
+use Rattle.checks.specs.Refusal.{number_of}
 use Rattle.checks.specs.Admitted.{state_fits}
 use Rattle.checks.specs.Fits.{fits_from}
-use Rattle.checks.specs.Checks.{rate_refused, count_refused, room_refused, refused_by, judged_now, later_of, stated_of}
+use Rattle.checks.specs.Checks.{rate_refused, count_refused, room_refused, judged_now, later_of, stated_of}
+
+-- ---- the numbers
+-- a refusal's is not 0
+pub number_not : (r : Refusal) → eqb (number_of r) 0 ≡ false
+number_not Rate = refl
+number_not Offset = refl
+number_not Table = refl
+number_not Count = refl
+number_not Sample = refl
+number_not Room = refl
+number_not State = refl
+number_not File = refl
 
 -- ---- the rate
 finite_of_lem : (x : Float) → not (is_finite x) ≡ false → T (finite x)
@@ -77,36 +90,36 @@ short_floats total floats c = let a = c.few in let b = c.even in omega arith
 
 -- ---- checks 3, 4, 6, 5
 module _ (total arm : ℕ) (xs : List Float) (table dibits reliabilities : ℕ) where
-  pub later_table : (c : Checked) → table < 32 * arm → c ≡ refused_by Table → judged_now c ≡ later_of total arm xs table dibits reliabilities
+  pub later_table : table < 32 * arm → judged_now (Err Table) ≡ later_of total arm xs table dibits reliabilities
   unfolding later_of
-  later_table c l e = rw (lt-ltb table (32 * arm) l, e)
+  later_table l = rw (lt-ltb table (32 * arm) l)
 
   module _ (a : Bool) (roomy : 32 * arm ≤ table) (ae : a ≡ count_refused total (length xs)) where
-    pub later_count : (c : Checked) → a ≡ true → c ≡ refused_by Count → judged_now c ≡ later_of total arm xs table dibits reliabilities
+    pub later_count : a ≡ true → judged_now (Err Count) ≡ later_of total arm xs table dibits reliabilities
     unfolding later_of
-    later_count c t e = rw (le-ltb table (32 * arm) roomy, ← ae, t, e)
+    later_count t = rw (le-ltb table (32 * arm) roomy, ← ae, t)
 
     module _ (b : Bool) (af : a ≡ false) (be : b ≡ room_refused (count_of xs) dibits reliabilities) where
-      pub later_room : (c : Checked) → b ≡ true → c ≡ refused_by Room → judged_now c ≡ later_of total arm xs table dibits reliabilities
+      pub later_room : b ≡ true → judged_now (Err Room) ≡ later_of total arm xs table dibits reliabilities
       unfolding later_of
-      later_room c t e = rw (le-ltb table (32 * arm) roomy, ← ae, af, ← be, t, e)
+      later_room t = rw (le-ltb table (32 * arm) roomy, ← ae, af, ← be, t)
 
       module _ (l : Level) (bf : b ≡ false) (le : l ≡ measured_of xs) where
-        pub later_accepted : l.finite ≡ true → judged_now (record { verdict = Accepted; overload = l.overload }) ≡ later_of total arm xs table dibits reliabilities
+        pub later_accepted : l.finite ≡ true → judged_now (Ok l.overload) ≡ later_of total arm xs table dibits reliabilities
         unfolding later_of measured_of
         later_accepted t = go (finite_of xs) refl
           where
-            go : (f : Bool) → finite_of xs ≡ f → judged_now (record { verdict = Accepted; overload = l.overload }) ≡ later_of total arm xs table dibits reliabilities
+            go : (f : Bool) → finite_of xs ≡ f → judged_now (Ok l.overload) ≡ later_of total arm xs table dibits reliabilities
             go true h = rw (le-ltb table (32 * arm) roomy, ← ae, af, ← be, bf, le, h)
             go false h = let z : l.finite ≡ false = rw (le, h) in absurd (true≢false (sym t ∙ z))
 
-        pub later_sample : (c : Checked) → l.finite ≡ false → c ≡ refused_by Sample → judged_now c ≡ later_of total arm xs table dibits reliabilities
+        pub later_sample : l.finite ≡ false → judged_now (Err Sample) ≡ later_of total arm xs table dibits reliabilities
         unfolding later_of measured_of
-        later_sample c t e = go (finite_of xs) refl
+        later_sample t = go (finite_of xs) refl
           where
-            go : (f : Bool) → finite_of xs ≡ f → judged_now c ≡ later_of total arm xs table dibits reliabilities
+            go : (f : Bool) → finite_of xs ≡ f → judged_now (Err Sample) ≡ later_of total arm xs table dibits reliabilities
             go true h = let z : l.finite ≡ true = rw (le, h) in absurd (true≢false (sym z ∙ t))
-            go false h = rw (le-ltb table (32 * arm) roomy, ← ae, af, ← be, bf, h, e)
+            go false h = rw (le-ltb table (32 * arm) roomy, ← ae, af, ← be, bf, h)
 
 -- ---- check 7
 module _ (total : ℕ) (front : FrontPlace) (chain : ChainPlace) (second : Second) (parents ancestors : List ℕ) (b : Bool) (be : b ≡ state_fits total front chain second parents ancestors) where
@@ -115,12 +128,12 @@ module _ (total : ℕ) (front : FrontPlace) (chain : ChainPlace) (second : Secon
       let k = fits_from total front chain second parents ancestors (sym be ∙ t) in
       (k.total_in, k.front_fits.resampler.arm_high)
 
-  module _ (xs : List Float) (table dibits reliabilities : ℕ) (c : Checked) where
-    pub judged_state : b ≡ false → c ≡ refused_by State → judged_now c ≡ stated_of total front chain second parents ancestors xs table dibits reliabilities
+  module _ (xs : List Float) (table dibits reliabilities : ℕ) where
+    pub judged_state : b ≡ false → judged_now (Err State) ≡ stated_of total front chain second parents ancestors xs table dibits reliabilities
     unfolding stated_of
-    judged_state f e = rw (← be, f, e)
+    judged_state f = rw (← be, f)
 
-    pub judged_later : b ≡ true → judged_now c ≡ later_of total front.resampler.arm xs table dibits reliabilities
+    pub judged_later : (c : Result ℕ Refusal) → b ≡ true → judged_now c ≡ later_of total front.resampler.arm xs table dibits reliabilities
         → judged_now c ≡ stated_of total front chain second parents ancestors xs table dibits reliabilities
     unfolding stated_of later_of
-    judged_later t e = rw (← be, t) e
+    judged_later c t e = rw (← be, t) e

@@ -1,21 +1,14 @@
 // The checks of a block, in their order: 7, 3, 4, 6, 5.
 ghost use Rattle.std.specs.Prelude.{◌≡◌, ◌≤◌, ◌^◌};
-ghost use Rattle.checks.specs.Checks.{count_refused, room_refused, refused_by, judged_now, later_of, stated_of};
+ghost use Rattle.checks.specs.Checks.{count_refused, room_refused, judged_now, later_of, stated_of};
 
 use super::admitted::{LIMIT, is_admitted};
-use super::refusal::Verdict;
+use super::refusal::Refusal;
 use answers::PARENTS;
 use chain::ChainPlace;
 use front::FrontPlace;
 use samples::measured;
 use second::Second;
-
-// Overload: 0 where the block is refused.
-#[derive(Clone, Copy)]
-pub struct Checked {
-    pub verdict: Verdict,
-    pub overload: u32,
-}
 
 fn count_is_refused(total: u64, floats: usize) -> bool
     requires { total ≤ 2 ^ 52 }
@@ -35,15 +28,6 @@ fn room_is_refused(n: usize, dibits: usize, reliabilities: usize) -> bool
     (dibits < 2 * n + 4) | (reliabilities < 4 * n + 8)
 }
 
-fn refused_by(verdict: Verdict) -> Checked
-    ensures { result ≡ refused_by verdict }
-{
-    Checked {
-        verdict,
-        overload: 0,
-    }
-}
-
 // Checks 3, 4, 6 and 5, of an admitted state.
 fn checked_block(
     total: u64,
@@ -52,31 +36,29 @@ fn checked_block(
     table: usize,
     dibits: usize,
     reliabilities: usize,
-) -> Checked
+) -> Result<u32, Refusal>
     requires total_bound { total ≤ 2 ^ 52 }
     requires arm_bound { arm ≤ 576 }
     ensures { judged_now result ≡ later_of total arm samples.now table dibits reliabilities }
 {
     if table < 32 * arm {
-        return refused_by(Verdict::Table);
+        return Err(Refusal::Table);
     }
     if count_is_refused(total, samples.len()) {
-        return refused_by(Verdict::Count);
+        return Err(Refusal::Count);
     }
     if room_is_refused(samples.len() / 2, dibits, reliabilities) {
-        return refused_by(Verdict::Room);
+        return Err(Refusal::Room);
     }
     let l = measured(samples);
     if l.finite {
-        return Checked {
-            verdict: Verdict::Accepted,
-            overload: l.overload,
-        };
+        Ok(l.overload)
+    } else {
+        Err(Refusal::Sample)
     }
-    refused_by(Verdict::Sample)
 }
 
-// Check 7 first.
+// Check 7 first; an accepted block's overload.
 pub fn judged(
     total: u64,
     front: FrontPlace,
@@ -88,13 +70,19 @@ pub fn judged(
     table: usize,
     dibits: usize,
     reliabilities: usize,
-) -> Checked
+) -> Result<u32, Refusal>
     ensures { judged_now result
         ≡ stated_of total front chain second parents.now ancestors.now samples.now table dibits reliabilities }
 {
-    if is_admitted(total, front, chain, second, parents, ancestors) {
-        let resampler = front.resampler;
-        return checked_block(total, resampler.arm, samples, table, dibits, reliabilities);
+    if !is_admitted(total, front, chain, second, parents, ancestors) {
+        return Err(Refusal::State);
     }
-    refused_by(Verdict::State)
+    checked_block(
+        total,
+        front.resampler.arm,
+        samples,
+        table,
+        dibits,
+        reliabilities,
+    )
 }

@@ -1,10 +1,9 @@
-// Whether a call is accepted, or why it is refused.
-ghost use Rattle.std.specs.Prelude.{◌≡◌, eqb};
+// Why a call is refused.
+ghost use Rattle.std.specs.Prelude.{◌≡◌};
 ghost use Rattle.checks.specs.Refusal.{number_of};
 
-#[derive(Clone, Copy)]
-pub enum Verdict {
-    Accepted,
+#[derive(Clone, Copy, Debug, PartialEq, Eq)]
+pub enum Refusal {
     // the sample rate
     Rate,
     // the channel's offset
@@ -23,25 +22,20 @@ pub enum Verdict {
     File,
 }
 
-// 0 where the call is accepted, or the refusal's number.
-pub fn number(v: Verdict) -> u32
-    ensures { result ≡ number_of v }
-{
-    match v {
-        Verdict::Accepted => 0,
-        Verdict::Rate => 1,
-        Verdict::Offset => 2,
-        Verdict::Table => 3,
-        Verdict::Count => 4,
-        Verdict::Sample => 5,
-        Verdict::Room => 6,
-        Verdict::State => 7,
-        Verdict::File => 8,
-    }
-}
+// The refusal's number.
+impl From<Refusal> for u32 {
+    ghost from_gives = { λ r n. n ≡ number_of r };
 
-pub fn is_accepted(v: Verdict) -> bool
-    ensures { result ≡ eqb (number_of v) 0 }
-{
-    number(v) == 0
+    fn from(r: Refusal) -> u32 {
+        match r {
+            Refusal::Rate => 1,
+            Refusal::Offset => 2,
+            Refusal::Table => 3,
+            Refusal::Count => 4,
+            Refusal::Sample => 5,
+            Refusal::Room => 6,
+            Refusal::State => 7,
+            Refusal::File => 8,
+        }
+    }
 }

@@ -1,7 +1,8 @@
 -- What the program answers: a block's lines, and the closing ones. Definitions only.
-use Rattle.std.specs.Prelude.{ℕ, ◌*◌, List, replicate, Float}
+use Rattle.std.specs.Prelude.{ℕ, ◌*◌, List, replicate, Float, Result, Ok, Err}
 use Rattle.chain.specs.declared.ChainPlace.{ChainPlace}
 use Rattle.receiver_state.specs.declared.state.Receiver.{Receiver}
+use Rattle.checks.specs.declared.refusal.Refusal.{Refusal}
 use Rattle.checks.specs.Refusal.{number_of}
 use Rattle.receiver.specs.Block.{Rooms, one, Outcome, block_of}
 use Rattle.recording.specs.declared.text.Totals.{Totals}
@@ -16,8 +17,10 @@ pub record Told : Type 0 where
   pub receiver : Receiver
   pub lines : Written
 
-abbrev pub told_now : Taken → List ℕ → Told
-told_now a text = record { number = number_of a.verdict; overload = a.overload; receiver = a.receiver; lines = written_of a.end text }
+-- by the answer, and the receiver and the text after the call
+abbrev pub told_now : Result Taken Refusal → Receiver → List ℕ → Told
+told_now (Ok a) r text = record { number = 0; overload = a.overload; receiver = r; lines = written_of a.end text }
+told_now (Err e) r text = record { number = number_of e; overload = 0; receiver = r; lines = written_of 0 text }
 
 -- a line for each dibit, from the text's start on
 abbrev pub told_by : Outcome → List ℕ → Told

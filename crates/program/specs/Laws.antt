@@ -1,6 +1,6 @@
 -- A block's answer from what decoding, the receiver and the lines give; the closing lines from the snapshot; how much of
 -- each there can be. Assumes nothing.
-use Rattle.std.specs.Prelude.{◌≡◌, refl, Bool, true, false, cond, List, [], ◌++◌, ℕ, ◌+◌, ◌*◌, ◌/◌, ◌≤◌, eqb, ltb, length, take, Float}
+use Rattle.std.specs.Prelude.{◌≡◌, refl, Bool, true, false, cond, List, [], ◌++◌, ℕ, ◌+◌, ◌*◌, ◌/◌, ◌≤◌, eqb, ltb, length, take, Float, Result, Ok, Err}
 use Rattle.std.proofs.Common.{sym, ap, ◌∙◌, arith, length-take}
 use Rattle.std.proofs.Math.Seq.{take-append_seam}
 use Rattle.std.specs.Float.{nan}
@@ -10,7 +10,7 @@ use Rattle.receiver_state.specs.declared.state.Receiver.{Receiver}
 use Rattle.receiver_state.specs.declared.state.Snapshot.{Snapshot}
 use Rattle.receiver.specs.declared.block.Block.{Block}
 use Rattle.receiver_state.specs.State.{snapshot_of, flag_of}
-use Rattle.checks.specs.Refusal.{number_of}
+use Rattle.checks.specs.declared.refusal.Refusal.{Refusal}
 use Rattle.samples.specs.Samples.{is_at_end, overload_of}
 use Rattle.samples.specs.Laws.{samples_most}
 use Rattle.checks.specs.Checks.{stated_of}
@@ -28,15 +28,20 @@ length_floats n bytes = length_upto (float_at bytes) n
 pub decoded_first : (n : ℕ) (bytes : List ℕ) (xs rest : List Float) → xs ≡ floats_of n bytes ++ rest → take n xs ≡ floats_of n bytes
 decoded_first n bytes xs rest e = ap (λ (l : List Float). take n l) e ∙ ap (λ (k : ℕ). take k (floats_of n bytes ++ rest)) (sym (length_floats n bytes)) ∙ take-append_seam (floats_of n bytes) rest
 
-pub answered_is : (r : Receiver) (table : List Float) (bytes : List ℕ) (n : ℕ) (text : List ℕ) (xs rest : List Float) (b : Block) (ds rs : List ℕ) (end : ℕ) (after : List ℕ)
-    → xs ≡ floats_of (2 * n) bytes ++ rest
-    → outcome_now b ds rs [] [] ≡ block_of r table (take (2 * n) xs) lent_rooms
-    → written_of end after ≡ put (lines_of ds rs b.count) (written_of 0 text)
-    → told_now (record { verdict = b.verdict; overload = b.overload; receiver = b.receiver; end = end }) after ≡ told_of r table bytes n text
-unfolding told_of
-answered_is r table bytes n text xs rest b ds rs end after x o w =
-    ap (λ (l : Written). record { number = number_of b.verdict; overload = b.overload; receiver = b.receiver; lines = l }) w
-    ∙ ap (λ (q : Outcome). told_by q text) (o ∙ ap (λ (ys : List Float). block_of r table ys lent_rooms) (decoded_first (2 * n) bytes xs rest x))
+module _ (r : Receiver) (table : List Float) (bytes : List ℕ) (n : ℕ) (text : List ℕ) (xs rest : List Float) (after : Receiver) (ds rs : List ℕ) (x : xs ≡ floats_of (2 * n) bytes ++ rest) where
+  told : (b : Result Block Refusal) → outcome_now b after ds rs [] [] ≡ block_of r table (take (2 * n) xs) lent_rooms → told_by (outcome_now b after ds rs [] []) text ≡ told_of r table bytes n text
+  unfolding told_of
+  told b o = ap (λ (q : Outcome). told_by q text) (o ∙ ap (λ (ys : List Float). block_of r table ys lent_rooms) (decoded_first (2 * n) bytes xs rest x))
+
+  pub answered_is : (b : Block) (end : ℕ) (left : List ℕ) → outcome_now (Ok b) after ds rs [] [] ≡ block_of r table (take (2 * n) xs) lent_rooms
+      → written_of end left ≡ put (lines_of ds rs b.count) (written_of 0 text)
+      → told_now (Ok (record { overload = b.overload; end = end })) after left ≡ told_of r table bytes n text
+  answered_is b end left o w = ap (λ (l : Written). record { number = 0; overload = b.overload; receiver = after; lines = l }) w ∙ told (Ok b) o
+
+  -- a refused block has no lines
+  pub answered_not : (e : Refusal) → outcome_now (Err e) after ds rs [] [] ≡ block_of r table (take (2 * n) xs) lent_rooms → told_now (Err e) after text ≡ told_of r table bytes n text
+  unfolding put lines_of
+  answered_not e o = told (Err e) o
 
 -- the snapshot's lock number is above 0 where the carrier is locked
 flag_above : (b : Bool) → ltb 0 (flag_of b) ≡ b

@@ -1,12 +1,13 @@
 -- Each step by its ways out: what the code gives there is what the definition says. Assumes nothing.
-use Rattle.std.specs.Prelude.{◌≡◌, Bool, true, false, cond, List, ℕ, ◌+◌, ◌-◌, ◌*◌, ◌≤◌, ◌<◌, eqb, ltb, pos, length, Float}
+use Rattle.std.specs.Prelude.{◌≡◌, Bool, true, false, cond, List, ℕ, ◌+◌, ◌-◌, ◌*◌, ◌≤◌, ◌<◌, eqb, ltb, pos, length, Float, Result, Ok, Err}
 use Rattle.std.proofs.Math.Path.{refl, ap}
 use Rattle.std.proofs.Common.{sym, ◌∙◌, subst, arith, lt-ltb, le-ltb, eqb-true}
 use Rattle.std.specs.Float.Ieee.{binary64, of_bits}
 use Rattle.laws.specs.Branches.{cond_yes, cond_then, cond_no}
 use Rattle.receiver_state.specs.declared.state.Receiver.{Receiver}
-use Rattle.receiver.specs.declared.setup.Setup.{Setup}
+use Rattle.checks.specs.declared.refusal.Refusal.{Refusal}
 use Rattle.checks.specs.Refusal.{number_of}
+use Rattle.checks.specs.Ways.{number_not}
 use Rattle.receiver.specs.Setup.{SetUp, setup_now, setup_of}
 use Rattle.recording.specs.Decode.{word_at}
 use Rattle.recording.specs.Text.{Written, written_of, put, closing_of, refused_of}
@@ -63,6 +64,16 @@ unfolding head_of
 head_off r overload bytes text b x e f h = cond_no (head_good bytes) _ _ x (sym e ∙ f) h
 
 -- ---- the settings
+set_up_not : (e : Refusal) (r : Receiver) (overload : ℕ) (text : List ℕ) (after : List Float) → refused_ran (number_of e) r overload (written_of 0 text) ≡ set_up_ran (setup_now (Err e) after) r overload text
+set_up_not e r overload text after = cond_no (eqb (number_of e) 0) _ _ _ (number_not e) refl
+
+table_is : (s : Result Receiver Refusal) (after : List Float) → after ≡ (setup_now s after).table
+table_is (Ok r) after = refl
+table_is (Err e) after = refl
+
+block_not : (e : Refusal) (left : ℕ) (r : Receiver) (overload : ℕ) (text : List ℕ) → refused_ran (number_of e) r overload (written_of 0 text) ≡ block_ran left (told_now (Err e) r text) overload
+block_not e left r overload text = cond_no (eqb (number_of e) 0) _ _ _ (number_not e) refl
+
 module _ (bytes : List ℕ) (table : List Float) (b : Bool) (be : b ≡ eqb (length bytes) 16) where
   pub table_cut : b ≡ false → table ≡ settings_table bytes table
   unfolding settings_table
@@ -72,7 +83,7 @@ module _ (bytes : List ℕ) (table : List Float) (b : Bool) (be : b ≡ eqb (len
   unfolding settings_of
   settings_cut r overload text x f h = cond_no (eqb (length bytes) 16) _ _ x (sym be ∙ f) h
 
-  module _ (t : b ≡ true) (s : Setup) (after : List Float) (rate offset : Float) (re : rate ≡ of_bits binary64 (word_at 8 bytes 0)) (oe : offset ≡ of_bits binary64 (word_at 8 bytes 8))
+  module _ (t : b ≡ true) (s : Result Receiver Refusal) (after : List Float) (rate offset : Float) (re : rate ≡ of_bits binary64 (word_at 8 bytes 0)) (oe : offset ≡ of_bits binary64 (word_at 8 bytes 8))
       (se : setup_now s after ≡ setup_of rate offset (pos 0) table) where
     setup_is : setup_now s after ≡ set_up_of bytes table
     unfolding set_up_of
@@ -80,18 +91,18 @@ module _ (bytes : List ℕ) (table : List Float) (b : Bool) (be : b ≡ eqb (len
 
     pub table_made : after ≡ settings_table bytes table
     unfolding settings_table
-    table_made = cond_then (eqb (length bytes) 16) _ _ after (sym be ∙ t) (ap (λ (u : SetUp). u.table) setup_is)
+    table_made = cond_then (eqb (length bytes) 16) _ _ after (sym be ∙ t) (table_is s after ∙ ap (λ (u : SetUp). u.table) setup_is)
 
-    module _ (r : Receiver) (overload : ℕ) (text : List ℕ) (a : Bool) (ae : a ≡ eqb (number_of s.verdict) 0) where
+    module _ (r : Receiver) (overload : ℕ) (text : List ℕ) where
       made : (x : Ran) → x ≡ set_up_ran (setup_now s after) r overload text → x ≡ settings_of r overload bytes table text
       unfolding settings_of
       made x h = cond_then (eqb (length bytes) 16) _ _ x (sym be ∙ t) (h ∙ ap (λ (u : SetUp). set_up_ran u r overload text) setup_is)
 
-      pub settings_on : a ≡ true → on_to Count s.receiver overload text ≡ settings_of r overload bytes table text
-      settings_on y = made _ (cond_yes (eqb (number_of s.verdict) 0) _ _ (sym ae ∙ y))
+      pub settings_on : (q : Receiver) → s ≡ Ok q → on_to Count q overload text ≡ settings_of r overload bytes table text
+      settings_on q e = made _ (ap (λ (u : Result Receiver Refusal). set_up_ran (setup_now u after) r overload text) (sym e))
 
-      pub settings_refused : (x : Ran) → a ≡ false → x ≡ refused_ran (number_of s.verdict) r overload (written_of 0 text) → x ≡ settings_of r overload bytes table text
-      settings_refused x f h = made x (cond_no (eqb (number_of s.verdict) 0) _ _ x (sym ae ∙ f) h)
+      pub settings_refused : (x : Ran) (e : Refusal) → s ≡ Err e → x ≡ refused_ran (number_of e) r overload (written_of 0 text) → x ≡ settings_of r overload bytes table text
+      settings_refused x e h k = made x (k ∙ set_up_not e r overload text after ∙ ap (λ (u : Result Receiver Refusal). set_up_ran (setup_now u after) r overload text) (sym h))
 
 -- ---- the count of samples
 pub count_on : (r : Receiver) (overload : ℕ) (bytes text : List ℕ) (b : Bool) (n : ℕ) (s : Stage) → b ≡ eqb (length bytes) 4 → b ≡ true → n ≡ word_at 4 bytes 0 → s ≡ stage_of n
@@ -119,21 +130,21 @@ module _ (left : ℕ) (r : Receiver) (overload : ℕ) (bytes : List ℕ) (table 
   unfolding samples_of
   samples_cut x f h = cond_no (eqb (length bytes) (8 * next_of left)) _ _ x (sym whole_is ∙ f) h
 
-  module _ (t : b ≡ true) (a : Taken) (after : List ℕ) (ae : told_now a after ≡ told_of r table bytes n text) where
-    ran : (x : Ran) → x ≡ block_ran left (told_now a after) overload → x ≡ samples_of left r overload bytes table text
+  module _ (t : b ≡ true) (x : Result Taken Refusal) (after : Receiver) (left_text : List ℕ) (xe : told_now x after left_text ≡ told_of r table bytes n text) where
+    ran : (y : Ran) → y ≡ block_ran left (told_now x after left_text) overload → y ≡ samples_of left r overload bytes table text
     unfolding samples_of
-    ran x h =
-        cond_then (eqb (length bytes) (8 * next_of left)) _ _ x (sym whole_is ∙ t)
-        (h ∙ ap (λ (u : Told). block_ran left u overload) (ae ∙ ap (λ (k : ℕ). told_of r table bytes k text) ne))
+    ran y h =
+        cond_then (eqb (length bytes) (8 * next_of left)) _ _ y (sym whole_is ∙ t)
+        (h ∙ ap (λ (u : Told). block_ran left u overload) (xe ∙ ap (λ (k : ℕ). told_of r table bytes k text) ne))
 
-    module _ (c : Bool) (ce : c ≡ eqb (number_of a.verdict) 0) where
-      pub samples_on : (s : Stage) → c ≡ true → s ≡ stage_of (left - n)
-          → ◌≡◌ {A = Ran} (record { stage = s; receiver = a.receiver; overload = overload + a.overload; text = written_of a.end after }) (samples_of left r overload bytes table text)
-      samples_on s y se = ran _ (cond_then (eqb (number_of a.verdict) 0) _ _ _ (sym ce ∙ y)
-          (ap (λ (x : Stage). record { stage = x; receiver = a.receiver; overload = overload + a.overload; text = written_of a.end after }) (se ∙ ap (λ (k : ℕ). stage_of (left - k)) ne)))
+    pub samples_on : (a : Taken) (s : Stage) → x ≡ Ok a → s ≡ stage_of (left - n)
+        → ◌≡◌ {A = Ran} (record { stage = s; receiver = after; overload = overload + a.overload; text = written_of a.end left_text }) (samples_of left r overload bytes table text)
+    samples_on a s e se = ran _
+        (ap (λ (u : Stage). record { stage = u; receiver = after; overload = overload + a.overload; text = written_of a.end left_text }) (se ∙ ap (λ (k : ℕ). stage_of (left - k)) ne)
+        ∙ ap (λ (u : Result Taken Refusal). block_ran left (told_now u after left_text) overload) (sym e))
 
-      pub samples_refused : (x : Ran) → c ≡ false → x ≡ refused_ran (number_of a.verdict) a.receiver overload (written_of a.end after) → x ≡ samples_of left r overload bytes table text
-      samples_refused x f h = ran x (cond_no (eqb (number_of a.verdict) 0) _ _ x (sym ce ∙ f) h)
+    pub samples_refused : (y : Ran) (e : Refusal) → x ≡ Err e → y ≡ refused_ran (number_of e) after overload (written_of 0 left_text) → y ≡ samples_of left r overload bytes table text
+    samples_refused y e h k = ran y (k ∙ block_not e left after overload left_text ∙ ap (λ (u : Result Taken Refusal). block_ran left (told_now u after left_text) overload) (sym h))
 
 pub samples_moves : (left overload n more : ℕ) (s : Stage) → n ≡ next_of left → 0 < left → more ≤ n → s ≡ stage_of (left - n) → Moves (Samples left) overload s (overload + more)
 samples_moves left overload n more s ne h m e =

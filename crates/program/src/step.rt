@@ -7,7 +7,7 @@ ghost use Rattle.program.specs.Program.{next_of, wanted_of, started_of, ran_now,
 ghost use Rattle.program.specs.Program.{stage_of, count_of, samples_of, end_of, step_of, table_of, gone_on, left_of, Moves};
 
 use crate::answer::{answered, closed};
-use checks::refusal::{Verdict, is_accepted, number};
+use checks::refusal::Refusal;
 use receiver::setup::set_up;
 use receiver_state::state::Receiver;
 use recording::decode::{count, float};
@@ -85,13 +85,13 @@ fn stage_of(left: usize) -> Stage
     Stage::End
 }
 
-fn refused(verdict: Verdict, r: Receiver, overload: u64, text: &mut [u8], at: usize) -> Program
-    requires { at + 30 ≤ length text.old }
-    ensures same { ran_now result text.new ≡ refused_ran (number_of verdict) r overload (written_of at text.old) }
-    ensures near { result.end ≤ at + 30 }
+fn refused(refusal: Refusal, r: Receiver, overload: u64, text: &mut [u8]) -> Program
+    requires { 30 ≤ length text.old }
+    ensures same { ran_now result text.new ≡ refused_ran (number_of refusal) r overload (written_of 0 text.old) }
+    ensures near { result.end ≤ 30 }
     ensures kept { length text.new ≡ length text.old }
 {
-    let end = recording::text::refused(number(verdict), text, at);
+    let end = recording::text::refused(u32::from(refusal), text, 0);
     Program {
         stage: Stage::Done,
         receiver: r,
@@ -124,7 +124,7 @@ fn headed(r: Receiver, overload: u64, bytes: &[u8], text: &mut [u8]) -> Program
             end: 0,
         };
     }
-    refused(Verdict::File, r, overload, text, 0)
+    refused(Refusal::File, r, overload, text)
 }
 
 // Setup is run once the settings are in.
@@ -137,20 +137,17 @@ fn set(r: Receiver, overload: u64, bytes: &[u8], table: &mut [f32], text: &mut [
     ensures on { Moves Settings overload result.stage result.overload }
 {
     if is_whole(bytes, 16) {
-        let s = set_up(float(bytes, 0), float(bytes, 8), 0, table);
-        let verdict = s.verdict;
-        if is_accepted(verdict) {
-            let receiver = s.receiver;
-            return Program {
+        return match set_up(float(bytes, 0), float(bytes, 8), 0, table) {
+            Ok(receiver) => Program {
                 stage: Stage::Count,
                 receiver,
                 overload,
                 end: 0,
-            };
-        }
-        return refused(verdict, r, overload, text, 0);
+            },
+            Err(refusal) => refused(refusal, r, overload, text),
+        };
     }
-    refused(Verdict::File, r, overload, text, 0)
+    refused(Refusal::File, r, overload, text)
 }
 
 fn counted(r: Receiver, overload: u64, bytes: &[u8], text: &mut [u8]) -> Program
@@ -170,7 +167,7 @@ fn counted(r: Receiver, overload: u64, bytes: &[u8], text: &mut [u8]) -> Program
             end: 0,
         };
     }
-    refused(Verdict::File, r, overload, text, 0)
+    refused(Refusal::File, r, overload, text)
 }
 
 // A block is run once all its bytes are in; one cut short is not run.
@@ -192,21 +189,18 @@ fn blocked(
 {
     let next = next_of(left);
     if is_whole(bytes, 8 * next) {
-        let a = answered(r, table, bytes, next, &mut *text);
-        let verdict = a.verdict;
-        let receiver = a.receiver;
-        if is_accepted(verdict) {
-            let stage = stage_of(left - next);
-            return Program {
-                stage,
+        let mut receiver = r;
+        return match answered(&mut receiver, table, bytes, next, &mut *text) {
+            Ok(a) => Program {
+                stage: stage_of(left - next),
                 receiver,
                 overload: overload + (a.overload as u64),
                 end: a.end,
-            };
-        }
-        return refused(verdict, receiver, overload, text, a.end);
+            },
+            Err(refusal) => refused(refusal, receiver, overload, text),
+        };
     }
-    refused(Verdict::File, r, overload, text, 0)
+    refused(Refusal::File, r, overload, text)
 }
 
 // A byte after the last sample is one too many.
@@ -227,7 +221,7 @@ fn ended(r: Receiver, overload: u64, bytes: &[u8], text: &mut [u8]) -> Program
             end,
         };
     }
-    refused(Verdict::File, r, overload, text, 0)
+    refused(Refusal::File, r, overload, text)
 }
 
 // A step, from any stage but the last.

@@ -1,29 +1,23 @@
 -- An accepted block: what it asks, and that it leaves an admitted state. Assumes nothing.
-use Rattle.std.specs.Prelude.{◌≡◌, refl, Bool, true, false, List, [], ◌∷◌, ℕ, ◌+◌, ◌*◌, ◌/◌, ◌≤◌, length, Float}
+use Rattle.std.specs.Prelude.{◌≡◌, refl, Bool, true, false, List, [], ◌∷◌, ℕ, ◌+◌, ◌*◌, ◌/◌, ◌≤◌, length, Float, Result, Ok, Err}
 use Rattle.std.proofs.Math.Path.{sym, ap}
 use Rattle.std.proofs.Common.{◌∙◌, arith}
-use Rattle.std.proofs.Math.Bool.{true≢false}
 use Rattle.std.proofs.lemmas.Bool.{false≢true}
-use Rattle.std.proofs.Math.Dec.{eqb}
 use Rattle.oscillator.specs.Oscillator.{conjugated_of}
-use Rattle.second.specs.Second.{second_of}
-use Rattle.second.specs.Parts.{split_join}
 use Rattle.second.specs.AdmittedLaws.{place_ranged}
-use Rattle.checks.specs.declared.refusal.Verdict.TheVariants.{Accepted}
+use Rattle.checks.specs.declared.refusal.Refusal.{Refusal}
 use Rattle.receiver_state.specs.declared.state.Receiver.{Receiver}
 use Rattle.receiver_state.specs.declared.state.Snapshot.{Snapshot}
-use Rattle.checks.specs.declared.block.Checked.{Checked}
 use Rattle.receiver.specs.declared.block.Block.{Block}
-use Rattle.checks.specs.Refusal.{number_of}
 use Rattle.receiver_state.specs.State.{snapshot_of}
 use Rattle.samples.specs.Samples.{count_of}
 use Rattle.receiver.specs.Admitted.{admitted_of, judged_of}
 use Rattle.checks.specs.Fits.{fits_to}
+use Rattle.checks.specs.Ways.{number_not}
 use Rattle.run.specs.Run.{Whole, whole_run_of, Going, ReadyRun}
 use Rattle.checks.specs.Checks.{judged_now}
 use Rattle.receiver.specs.Accepted.{ReadyBlock, take_asks}
-use Rattle.receiver.specs.Absent.{whole_given, run_off}
-use Rattle.receiver.specs.Block.{Rooms, NoneLent, room_of, dibit_room, reliability_room, start_with, start_of, receiver_with, floats_of, Outcome, outcome_now, ended_with, ended_of, accepted_of, refused_block, block_of}
+use Rattle.receiver.specs.Block.{Rooms, NoneLent, room_of, dibit_room, reliability_room, start_with, start_of, receiver_with, floats_of, Outcome, outcome_now, ended_with, ended_of, accepted_of, block_of}
 
 -- ---- the rooms
 
@@ -37,8 +31,8 @@ emptied : (l : List ℕ) → length l ≡ 0 → [] ≡ l
 emptied [] h = refl
 emptied (x ∷ l) h = absurd (omega arith)
 
-pub none_lent : (x : Block) (ds rs es qs : List ℕ) (y : Outcome) (P : Type 0) → length es ≡ 0 → length qs ≡ 0 → (outcome_now x ds rs es qs ≡ y) × P → (outcome_now x ds rs [] [] ≡ y) × P
-none_lent x ds rs es qs y P e f h = ((λ i. outcome_now x ds rs (emptied es e i) (emptied qs f i)) ∙ h.0, h.1)
+pub none_lent : (x : Result Block Refusal) (r : Receiver) (ds rs es qs : List ℕ) (y : Outcome) → length es ≡ 0 → length qs ≡ 0 → outcome_now x r ds rs es qs ≡ y → outcome_now x r ds rs [] [] ≡ y
+none_lent x r ds rs es qs y e f h = (λ i. outcome_now x r ds rs (emptied es e i) (emptied qs f i)) ∙ h
 
 abbrev Ready : Receiver → List Float → List Float → Rooms → Type 0
 Ready r table xs o = ReadyBlock r table xs (dibit_room o) (reliability_room o)
@@ -128,87 +122,33 @@ run_admitted conjugated r table xs memory o w left k g =
 run_most : (conjugated : Bool) (r : Receiver) (table xs memory : List Float) (o : Rooms) (w : Whole) → Going conjugated table xs (start_with r memory o) w → w.lent.room.written ≤ length xs
 run_most conjugated r table xs memory o w g = let n : w.from ≤ length xs / 2 = g.high in let m = g.left.most in omega arith
 
--- ---- an accepted block
-module _ (r : Receiver) (table xs : List Float) (overload : ℕ) (o : Rooms) where
-  abbrev total : ℕ
-  total = r.total + count_of xs
-
-  -- what the definition's run leaves
-  abbrev ended : Outcome
-  ended = ended_of total overload (whole_run_of (conjugated_of r.chain.profile) table xs (start_of r o))
-
-  -- what the code makes of its own run
-  abbrev made : Whole → Snapshot → List Float → Block
-  made w s left = record { verdict = Accepted; count = w.lent.room.written; overload = overload; snapshot = s; receiver = receiver_with total w left }
-
-  pub accepted_is : (conjugated : Bool) (memory : List Float) (w : Whole) (s : Snapshot) (left : List Float) → Ready r table xs o → Going conjugated table xs (start_with r memory o) w
-      → s ≡ snapshot_of w.lent.state.place → ended_with total overload w left ≡ ended
-      → (outcome_now (made w s left) w.lent.room.dibits w.lent.room.reliabilities w.lent.other.dibits w.lent.other.reliabilities ≡ accepted_of r table xs overload o)
-      × ((admitted_of (receiver_with total w left) ≡ true) × (w.lent.room.written ≤ length xs))
-  unfolding accepted_of
-  accepted_is conjugated memory w s left k g se en = (
-    ap (λ (t : Snapshot). outcome_now (made w t left) w.lent.room.dibits w.lent.room.reliabilities w.lent.other.dibits w.lent.other.reliabilities) se ∙ en,
-    (run_admitted conjugated r table xs memory o w left k g, run_most conjugated r table xs memory o w g),
-  )
-
-  -- with the second stream's floats taken out and put back
-  pub ended_both : (conjugated : Bool) (w : Whole) (left : List Float) → conjugated ≡ conjugated_of r.chain.profile → w ≡ whole_run_of conjugated table xs (start_of r o) → floats_of w ≡ left
-      → ended_with total overload w left ≡ ended
-  ended_both conjugated w left ce we fe =
-      ap (ended_with total overload w) (sym fe) ∙ ap (ended_of total overload) (we ∙ ap (λ (b : Bool). whole_run_of b table xs (start_of r o)) ce)
-
-  -- with others in their place, while the second is not enabled
-  pub ended_one : (conjugated : Bool) (memory : List Float) (w : Whole) → r.second.enabled ≡ false → length r.memory ≡ 9280 → conjugated ≡ conjugated_of r.chain.profile
-      → w ≡ whole_run_of conjugated table xs (start_with r memory o) → ended_with total overload w r.memory ≡ ended
-  ended_one conjugated memory w off size ce we =
-      let profile = conjugated_of r.chain.profile in
-      let first = start_with r memory o in
-      let own = second_of r.second memory r.ancestors in
-      let kept = second_of r.second r.memory r.ancestors in
-      ap (λ (v : Whole). ended_with total overload v r.memory) (we ∙ ap (λ (b : Bool). whole_run_of b table xs first) ce ∙ run_off own off profile table xs first off)
-      ∙ ap (ended_with total overload (whole_given kept off (whole_run_of profile table xs first))) (sym (split_join r.memory size))
-      ∙ ap (ended_of total overload) (sym (run_off kept off profile table xs first off))
-
 -- ---- the call
 
 -- the rooms that the checks looked at
-pub judged_rooms : (r : Receiver) (xs : List Float) (table : ℕ) (o : Rooms) (c : Checked) (dibits reliabilities : ℕ) → dibits ≡ dibit_room o → reliabilities ≡ reliability_room o
+pub judged_rooms : (r : Receiver) (xs : List Float) (table : ℕ) (o : Rooms) (c : Result ℕ Refusal) (dibits reliabilities : ℕ) → dibits ≡ dibit_room o → reliabilities ≡ reliability_room o
     → judged_now c ≡ judged_of r xs table dibits reliabilities → judged_now c ≡ judged_of r xs table (dibit_room o) (reliability_room o)
 judged_rooms r xs table o c dibits reliabilities d e h = h ∙ (λ i. judged_of r xs table (d i) (e i))
 
-module _ (r : Receiver) (table xs : List Float) (o : Rooms) (c : Checked) (b : Bool) (je : judged_now c ≡ judged_of r xs (length table) (dibit_room o) (reliability_room o)) (be : b ≡ eqb (number_of c.verdict) 0) where
-  take_accepted : (x : Block) (ds rs es qs : List ℕ) → b ≡ true → (outcome_now x ds rs es qs ≡ accepted_of r table xs c.overload o) × ((admitted_of x.receiver ≡ true) × (x.count ≤ length xs))
-      → (outcome_now x ds rs es qs ≡ block_of r table xs o) × ((number_of x.verdict ≡ 0 → admitted_of x.receiver ≡ true) × (x.count ≤ length xs))
+module _ (r : Receiver) (table xs : List Float) (o : Rooms) where
+  pub take_refused : (e : Refusal) → judged_now (Err e) ≡ judged_of r xs (length table) (dibit_room o) (reliability_room o)
+      → outcome_now (Err e) r o.dibits o.reliabilities o.others o.other_reliabilities ≡ block_of r table xs o
   unfolding block_of
-  take_accepted x ds rs es qs t h = (rw (← je, ← be, t) h.0, (λ z. h.1.0, h.1.1))
+  take_refused e j = rw (← j, number_not e)
 
-  pub take_refused : (x : Block) → b ≡ false → x ≡ refused_block c.verdict r
-      → (outcome_now x o.dibits o.reliabilities o.others o.other_reliabilities ≡ block_of r table xs o)
-      × ((number_of x.verdict ≡ 0 → admitted_of x.receiver ≡ true) × (x.count ≤ length xs))
-  unfolding block_of
-  take_refused x f e = (rw (← je, ← be, f, e), (λ z. absurd (never (sym (ap (λ (x : Block). number_of x.verdict) e) ∙ z)), none (ap (λ (x : Block). x.count) e)))
-    where
-      never : number_of c.verdict ≡ 0 → ⊥
-      never z = true≢false (sym (ap (λ (n : ℕ). eqb n 0) z) ∙ sym be ∙ f)
-
-      none : x.count ≡ 0 → x.count ≤ length xs
-      none z = omega arith
+  abbrev total : ℕ
+  total = r.total + count_of xs
 
   -- an accepted block, from what the run left
-  pub taken_is : (conjugated : Bool) (memory : List Float) (w : Whole) (s : Snapshot) (left : List Float) → b ≡ true → Going conjugated table xs (start_with r memory o) w → s ≡ snapshot_of w.lent.state.place
-      → ended_with (r.total + count_of xs) c.overload w left ≡ ended_of (r.total + count_of xs) c.overload (whole_run_of (conjugated_of r.chain.profile) table xs (start_of r o))
-      → (outcome_now (made r table xs c.overload o w s left) w.lent.room.dibits w.lent.room.reliabilities w.lent.other.dibits w.lent.other.reliabilities ≡ block_of r table xs o)
-      × ((number_of Accepted ≡ 0 → admitted_of (receiver_with (r.total + count_of xs) w left) ≡ true) × (w.lent.room.written ≤ length xs))
-  taken_is conjugated memory w s left t g se en =
-      take_accepted (made r table xs c.overload o w s left) w.lent.room.dibits w.lent.room.reliabilities w.lent.other.dibits w.lent.other.reliabilities t
-      (accepted_is r table xs c.overload o conjugated memory w s left (take_asks r table xs (dibit_room o) (reliability_room o) c b je be t) g se en)
-
-  -- and one for which nothing was lent to the second stream
-  pub taken_one : (conjugated : Bool) (memory : List Float) (w : Whole) (s : Snapshot) (left : List Float) → b ≡ true → Going conjugated table xs (start_with r memory o) w → s ≡ snapshot_of w.lent.state.place
-      → ended_with (r.total + count_of xs) c.overload w left ≡ ended_of (r.total + count_of xs) c.overload (whole_run_of (conjugated_of r.chain.profile) table xs (start_of r o))
-      → length w.lent.other.dibits ≡ 0 → length w.lent.other.reliabilities ≡ 0
-      → (outcome_now (made r table xs c.overload o w s left) w.lent.room.dibits w.lent.room.reliabilities [] [] ≡ block_of r table xs o)
-      × ((number_of Accepted ≡ 0 → admitted_of (receiver_with (r.total + count_of xs) w left) ≡ true) × (w.lent.room.written ≤ length xs))
-  taken_one conjugated memory w s left t g se en es qs =
-      none_lent (made r table xs c.overload o w s left) w.lent.room.dibits w.lent.room.reliabilities w.lent.other.dibits w.lent.other.reliabilities (block_of r table xs o) _ es qs
-      (taken_is conjugated memory w s left t g se en)
+  pub taken_is : (overload : ℕ) (conjugated : Bool) (w : Whole) (s : Snapshot) (left : List Float) → judged_now (Ok overload) ≡ judged_of r xs (length table) (dibit_room o) (reliability_room o)
+      → conjugated ≡ conjugated_of r.chain.profile → w ≡ whole_run_of conjugated table xs (start_of r o) → Going conjugated table xs (start_of r o) w → s ≡ snapshot_of w.lent.state.place
+      → floats_of w ≡ left
+      → (outcome_now (Ok (record { count = w.lent.room.written; overload = overload; snapshot = s })) (receiver_with total w left) w.lent.room.dibits w.lent.room.reliabilities w.lent.other.dibits w.lent.other.reliabilities
+      ≡ block_of r table xs o)
+      × (admitted_of (receiver_with total w left) ≡ true)
+      × (w.lent.room.written ≤ length xs)
+  unfolding block_of accepted_of
+  taken_is overload conjugated w s left je ce we g se fe =
+      let asks = take_asks r table xs (dibit_room o) (reliability_room o) overload je in
+      let ended = ap (ended_with total overload w) (sym fe) ∙ ap (ended_of total overload) (we ∙ ap (λ (b : Bool). whole_run_of b table xs (start_of r o)) ce) in
+      let shown = ap (λ (t : Snapshot). outcome_now (Ok (record { count = w.lent.room.written; overload = overload; snapshot = t })) (receiver_with total w left) w.lent.room.dibits w.lent.room.reliabilities w.lent.other.dibits w.lent.other.reliabilities) se in
+      (rw (← je) (shown ∙ ended), run_admitted conjugated r table xs r.memory o w left asks g, run_most conjugated r table xs r.memory o w g)

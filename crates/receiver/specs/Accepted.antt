@@ -1,6 +1,6 @@
 -- A block that no check refuses: what is then known of its state, its samples and the rooms. Assumes nothing.
-use Rattle.std.specs.Prelude.{◌≡◌, refl, ◌⊎◌, Bool, true, false, cond, not, List, ℕ, ◌+◌, ◌*◌, ◌/◌, ◌%◌, ◌^◌, ◌≤◌, ◌<◌, T, ltb, eqb, length, get_or, Float}
-use Rattle.std.proofs.Common.{sym, ap, ◌∙◌, subst, inl, inr, arith, ltb-false, eqb-true}
+use Rattle.std.specs.Prelude.{◌≡◌, refl, ◌⊎◌, Bool, true, false, cond, not, List, ℕ, ◌+◌, ◌*◌, ◌/◌, ◌%◌, ◌^◌, ◌≤◌, ◌<◌, T, ltb, length, get_or, Float, Ok}
+use Rattle.std.proofs.Common.{sym, ap, subst, inl, inr, arith, ltb-false}
 use Rattle.std.proofs.lemmas.Bool.{false≢true}
 use Rattle.std.specs.Float.{nan, inf, fin}
 use Rattle.std.specs.Float.Ieee.{is_nan}
@@ -12,13 +12,11 @@ use Rattle.chain.specs.declared.ChainPlace.{ChainPlace}
 use Rattle.front.specs.declared.FrontPlace.{FrontPlace}
 use Rattle.second.specs.declared.Second.{Second}
 use Rattle.receiver_state.specs.declared.state.Receiver.{Receiver}
-use Rattle.checks.specs.Refusal.{number_of}
 use Rattle.samples.specs.Samples.{count_of, real_of, imaginary_of, finite_of}
 use Rattle.samples.specs.Laws.{finite_parts}
 use Rattle.checks.specs.Admitted.{state_fits}
 use Rattle.receiver.specs.Admitted.{admitted_of, judged_of}
 use Rattle.checks.specs.Fits.{Fits, fits_from}
-use Rattle.checks.specs.declared.block.Checked.{Checked}
 use Rattle.checks.specs.Checks.{count_refused, room_refused, Judged, judged_now, stated_of}
 use Rattle.checks.specs.Ways.{counted}
 
@@ -73,16 +71,15 @@ ready_block r table xs dibits reliabilities h =
       reliabilities_in = ltb-false reliabilities (4 * count_of xs + 8) p.1;
     }
 
-pub take_asks : (r : Receiver) (table xs : List Float) (dibits reliabilities : ℕ) (c : Checked) (b : Bool) → judged_now c ≡ judged_of r xs (length table) dibits reliabilities → b ≡ eqb (number_of c.verdict) 0 → b ≡ true
+pub take_asks : (r : Receiver) (table xs : List Float) (dibits reliabilities overload : ℕ) → judged_now (Ok overload) ≡ judged_of r xs (length table) dibits reliabilities
     → ReadyBlock r table xs dibits reliabilities
-take_asks r table xs dibits reliabilities c b je be t =
-    ready_block r table xs dibits reliabilities (sym (ap (λ (j : Judged). j.number) je) ∙ eqb-true (number_of c.verdict) 0 (sym be ∙ t))
+take_asks r table xs dibits reliabilities overload je = ready_block r table xs dibits reliabilities (sym (ap (λ (j : Judged). j.number) je))
 
 -- an accepted block's samples leave the total within 2^52
-pub take_total : (total : ℕ) (front : FrontPlace) (chain : ChainPlace) (second : Second) (parents ancestors : List ℕ) (xs : List Float) (table dibits reliabilities : ℕ) (c : Checked) (b : Bool)
-    → judged_now c ≡ stated_of total front chain second parents ancestors xs table dibits reliabilities → b ≡ eqb (number_of c.verdict) 0 → b ≡ true → total + count_of xs ≤ 2 ^ 52
+pub take_total : (total : ℕ) (front : FrontPlace) (chain : ChainPlace) (second : Second) (parents ancestors : List ℕ) (xs : List Float) (table dibits reliabilities overload : ℕ)
+    → judged_now (Ok overload) ≡ stated_of total front chain second parents ancestors xs table dibits reliabilities → total + count_of xs ≤ 2 ^ 52
 unfolding stated_of
-take_total total front chain second parents ancestors xs table dibits reliabilities c b je be t =
-    let number = sym (ap (λ (j : Judged). j.number) je) ∙ eqb-true (number_of c.verdict) 0 (sym be ∙ t) in
+take_total total front chain second parents ancestors xs table dibits reliabilities overload je =
+    let number = sym (ap (λ (j : Judged). j.number) je) in
     let z = first_none (not (state_fits total front chain second parents ancestors)) (ltb table (32 * front.resampler.arm)) (count_refused total (length xs)) (room_refused (count_of xs) dibits reliabilities) (not (finite_of xs)) number in
     (counted total (length xs) (count_refused total (length xs)) refl z.2).total_in

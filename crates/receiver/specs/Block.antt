@@ -1,9 +1,9 @@
 -- A block: what it gives for each state, table, samples and lent rooms, of one stream or of both. Definitions only.
-use Rattle.std.specs.Prelude.{◌≡◌, ℕ, ◌+◌, min, Bool, true, false, cond, List, [], eqb, length, Float}
+use Rattle.std.specs.Prelude.{◌≡◌, ℕ, ◌+◌, min, Bool, true, false, cond, List, [], eqb, length, Float, Result, Ok, Err}
 use Rattle.oscillator.specs.Oscillator.{conjugated_of}
 use Rattle.second.specs.Second.{second_of, joined_of}
 use Rattle.chain.specs.Chain.{state_of, planes_now}
-use Rattle.checks.specs.declared.refusal.Verdict.{Verdict}
+use Rattle.checks.specs.declared.refusal.Refusal.{Refusal}
 use Rattle.receiver_state.specs.declared.state.Receiver.{Receiver}
 use Rattle.receiver_state.specs.declared.state.Snapshot.{Snapshot}
 use Rattle.receiver.specs.declared.block.Block.{Block}
@@ -96,13 +96,25 @@ pub record Outcome : Type 0 where
   pub others : List ℕ
   pub other_reliabilities : List ℕ
 
-abbrev pub outcome_now : Block → List ℕ → List ℕ → List ℕ → List ℕ → Outcome
-outcome_now b ds rs es qs = record {
-  number = number_of b.verdict;
-  receiver = b.receiver;
+-- by the answer, and the state and the rooms after the call
+abbrev pub outcome_now : Result Block Refusal → Receiver → List ℕ → List ℕ → List ℕ → List ℕ → Outcome
+outcome_now (Ok b) r ds rs es qs = record {
+  number = 0;
+  receiver = r;
   count = b.count;
   overload = b.overload;
   snapshot = b.snapshot;
+  dibits = ds;
+  reliabilities = rs;
+  others = es;
+  other_reliabilities = qs;
+}
+outcome_now (Err e) r ds rs es qs = record {
+  number = number_of e;
+  receiver = r;
+  count = 0;
+  overload = 0;
+  snapshot = zero_snapshot;
   dibits = ds;
   reliabilities = rs;
   others = es;
@@ -142,9 +154,6 @@ refused_of number r o = record {
   others = o.others;
   other_reliabilities = o.other_reliabilities;
 }
-
-abbrev pub refused_block : Verdict → Receiver → Block
-refused_block v r = record { verdict = v; count = 0; overload = 0; snapshot = zero_snapshot; receiver = r }
 
 -- ---- either, by the checks
 

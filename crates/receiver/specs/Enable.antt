@@ -1,11 +1,11 @@
 -- The enabling of the second tracker: what it gives for each state. Definitions only.
-use Rattle.std.specs.Prelude.{ℕ, cond, List, eqb, replicate, Float}
+use Rattle.std.specs.Prelude.{ℕ, cond, List, eqb, replicate, Float, Result, ⊤}
 use Rattle.second.specs.declared.Second.{Second}
 use Rattle.second.specs.Second.{fresh_second, fresh_floats}
 use Rattle.receiver_state.specs.declared.state.Receiver.{Receiver}
-use Rattle.checks.specs.Refusal.{number_of, first_of}
+use Rattle.checks.specs.declared.refusal.Refusal.{Refusal}
+use Rattle.checks.specs.Refusal.{verdict_of, first_of}
 use Rattle.checks.specs.Checks.{enabling_checks}
-use Rattle.receiver.specs.declared.enable.Enabled.{Enabled}
 use Rattle.receiver.specs.Admitted.{admitted_of}
 
 -- the refusal's number or 0, and the state
@@ -13,8 +13,9 @@ pub record Enabling : Type 0 where
   pub number : ℕ
   pub receiver : Receiver
 
-abbrev pub enabled_now : Enabled → Enabling
-enabled_now e = record { number = number_of e.verdict; receiver = e.receiver }
+-- by the answer, and the state after the call
+abbrev pub enabled_now : Result ⊤ Refusal → Receiver → Enabling
+enabled_now x r = record { number = verdict_of x; receiver = r }
 
 -- a state with another second tracker, and all else as it was
 abbrev pub with_second : Receiver → Second → List Float → List ℕ → Receiver

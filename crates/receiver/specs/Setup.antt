@@ -1,10 +1,9 @@
 -- A setup: what it gives for each rate, offset, profile and lent table. Definitions only.
-use Rattle.std.specs.Prelude.{ℕ, cond, List, eqb, ℤ, length, Float}
+use Rattle.std.specs.Prelude.{ℕ, cond, List, eqb, ℤ, length, Float, Result, Ok, Err}
 use Rattle.resampler.specs.Dimensions.{sized_of}
 use Rattle.resampler.specs.Design.{written_of}
-use Rattle.checks.specs.declared.refusal.Verdict.{Verdict}
+use Rattle.checks.specs.declared.refusal.Refusal.{Refusal}
 use Rattle.receiver_state.specs.declared.state.Receiver.{Receiver}
-use Rattle.receiver.specs.declared.setup.Setup.{Setup}
 use Rattle.checks.specs.Refusal.{number_of, first_of}
 use Rattle.receiver_state.specs.State.{zero_receiver, fresh_front, fresh_receiver}
 use Rattle.checks.specs.Checks.{setup_checks}
@@ -15,11 +14,10 @@ pub record SetUp : Type 0 where
   pub receiver : Receiver
   pub table : List Float
 
-abbrev pub setup_now : Setup → List Float → SetUp
-setup_now s table = record { number = number_of s.verdict; receiver = s.receiver; table = table }
-
-abbrev pub refused_receiver : Verdict → Setup
-refused_receiver v = record { verdict = v; receiver = zero_receiver }
+-- a refusal stands for the state of zeros
+abbrev pub setup_now : Result Receiver Refusal → List Float → SetUp
+setup_now (Ok r) table = record { number = 0; receiver = r; table = table }
+setup_now (Err e) table = record { number = number_of e; receiver = zero_receiver; table = table }
 
 abbrev pub setup_by : ℕ → Float → Float → ℤ → List Float → SetUp
 setup_by number rate offset profile table =

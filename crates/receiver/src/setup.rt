@@ -1,19 +1,13 @@
 // A fresh receiver for a rate and an offset, or a refusal.
 ghost use Rattle.std.specs.Prelude.{◌≡◌};
 ghost use Rattle.receiver_state.specs.State.{fresh_front};
-ghost use Rattle.receiver.specs.Setup.{refused_receiver, setup_now, setup_of};
+ghost use Rattle.receiver.specs.Setup.{setup_now, setup_of};
 
-use checks::refusal::Verdict;
+use checks::refusal::Refusal;
 use checks::setup::{offset_is_refused, rate_is_refused};
 use front::FrontPlace;
 use receiver_state::state::Receiver;
 use resampler::dimensions::{Dimensions, sized};
-
-#[derive(Clone, Copy)]
-pub struct Setup {
-    pub verdict: Verdict,
-    pub receiver: Receiver,
-}
 
 fn front_at(rate: f64, offset: f64, d: Dimensions) -> FrontPlace
     ensures { result ≡ fresh_front rate offset d }
@@ -28,33 +22,22 @@ fn front_at(rate: f64, offset: f64, d: Dimensions) -> FrontPlace
     }
 }
 
-fn refused(verdict: Verdict) -> Setup
-    ensures { result ≡ refused_receiver verdict }
-{
-    let receiver = receiver_state::state::zero();
-    Setup { verdict, receiver }
-}
-
 // For `rate` samples a second and a channel `offset` hertz from their middle; writes the first 32 c
 // places of the table. Profile 1 is the conjugated one.
-pub fn set_up(rate: f64, offset: f64, profile: i32, table: &mut [f32]) -> Setup
+pub fn set_up(rate: f64, offset: f64, profile: i32, table: &mut [f32]) -> Result<Receiver, Refusal>
     ensures { setup_now result table.new ≡ setup_of rate offset profile table.old }
 {
     if rate_is_refused(rate) {
-        return refused(Verdict::Rate);
+        return Err(Refusal::Rate);
     }
     if offset_is_refused(rate, offset) {
-        return refused(Verdict::Offset);
+        return Err(Refusal::Offset);
     }
     let d = sized(rate);
     if table.len() < 32 * d.arm {
-        return refused(Verdict::Table);
+        return Err(Refusal::Table);
     }
     resampler::design::write_table(d.arm, d.rate, table);
     let front = front_at(rate, offset, d);
-    let receiver = receiver_state::state::fresh(front, profile);
-    Setup {
-        verdict: Verdict::Accepted,
-        receiver,
-    }
+    Ok(receiver_state::state::fresh(front, profile))
 }

@@ -1,30 +1,15 @@
 // A block of samples through the receiver, whichever streams are asked for.
-ghost use Rattle.std.specs.Prelude.{◌≡◌, true, ◌≤◌, length};
-ghost use Rattle.receiver.specs.Block.{rooms_of, NoneLent, room_of, outcome_now, refused_block, block_of};
+ghost use Rattle.std.specs.Prelude.{◌≡◌, true, ◌≤◌, length, OnOk, IfOk};
+ghost use Rattle.receiver.specs.Block.{rooms_of, NoneLent, room_of, outcome_now, block_of};
 ghost use Rattle.receiver.specs.Admitted.{admitted_of};
-ghost use Rattle.checks.specs.Refusal.{number_of};
 
 use super::block::Block;
-use chain::Chained;
+use chain::{ChainPlanes, Chained};
 use checks::block::judged;
-use checks::refusal::{Verdict, is_accepted};
+use checks::refusal::Refusal;
 use oscillator::is_conjugated;
-use receiver_state::state::{Receiver, snapshot_of, zero_snapshot};
+use receiver_state::state::{Receiver, snapshot_of};
 use run::{Running, run};
-
-// The state as given, and nothing counted.
-pub fn refused(verdict: Verdict, r: Receiver) -> Block
-    ensures { result ≡ refused_block verdict r }
-{
-    let snapshot = zero_snapshot();
-    Block {
-        verdict,
-        count: 0,
-        overload: 0,
-        snapshot,
-        receiver: r,
-    }
-}
 
 // The room that check 6 looks at: where both streams are asked for, the shorter of their two.
 fn room(both: bool, first: usize, other: usize) -> usize
@@ -33,11 +18,32 @@ fn room(both: bool, first: usize, other: usize) -> usize
     if both { first.min(other) } else { first }
 }
 
-// Takes a block: pairs of floats in; dibits, and two reliabilities for each, out. The planes are taken
-// out of the state before anything else and put back at the end, so that each is copied twice a call.
-// Where only one stream is asked for, no room is lent to the other.
+// An array is as long as its type says. Nothing runs here: the call is made for what it ensures.
+fn sized<T: Copy, const N: usize>(xs: &[T; N])
+    ensures { length xs.now ≡ N }
+{}
+
+// The planes of a state are as long as `run` asks, which nothing else says of arrays deep behind a reference.
+fn planes_sized(planes: &ChainPlanes)
+    ensures real { length planes.now.recovery.keeper.real ≡ 64 }
+    ensures imaginary { length planes.now.recovery.keeper.imaginary ≡ 64 }
+    ensures channel_real { length planes.now.decisions.channels.real ≡ 256 }
+    ensures channel_imaginary { length planes.now.decisions.channels.imaginary ≡ 256 }
+    ensures costs { length planes.now.decisions.costs ≡ 64 }
+    ensures parents { length planes.now.decisions.parents ≡ 2048 }
+{
+    sized(&planes.recovery.keeper.real);
+    sized(&planes.recovery.keeper.imaginary);
+    sized(&planes.decisions.channels.real);
+    sized(&planes.decisions.channels.imaginary);
+    sized(&planes.decisions.costs);
+    sized(&planes.decisions.parents);
+}
+
+// Takes a block: pairs of floats in; dibits, and two reliabilities for each, out. The steps work on the
+// state's own planes. Where only one stream is asked for, no room is lent to the other.
 pub fn take_any(
-    r: Receiver,
+    r: &mut Receiver,
     table: &[f32],
     samples: &[f32],
     dibits: &mut [u8],
@@ -45,92 +51,61 @@ pub fn take_any(
     others: &mut [u8],
     other_reliabilities: &mut [u8],
     both: bool,
-) -> Block
+) -> Result<Block, Refusal>
     requires { NoneLent (rooms_of both dibits.old reliabilities.old others.old other_reliabilities.old) }
-    ensures same { outcome_now result dibits.new reliabilities.new others.new other_reliabilities.new
-        ≡ block_of r table.now samples.now
+    ensures same { outcome_now result r.new dibits.new reliabilities.new others.new other_reliabilities.new
+        ≡ block_of r.old table.now samples.now
         (rooms_of both dibits.old reliabilities.old others.old other_reliabilities.old) }
-    ensures kept { number_of result.verdict ≡ 0 → admitted_of result.receiver ≡ true }
-    ensures most { result.count ≤ length samples.now }
+    ensures kept { OnOk result (admitted_of r.new ≡ true) }
+    ensures most { IfOk result (λ b. b.count ≤ length samples.now) }
 {
-    let front = r.front;
-    let chain = r.chain;
-    let records = r.records;
-    let second = r.second;
-    let mut ring = r.ring;
-    let mut planes = r.planes;
-    let mut ancestors = r.ancestors;
-    let mut memory = r.memory;
-    let c = judged(
+    let overload = judged(
         r.total,
-        front,
-        chain,
-        second,
-        &planes.decisions.parents,
-        &ancestors,
+        r.front,
+        r.chain,
+        r.second,
+        &r.planes.decisions.parents,
+        &r.ancestors,
         samples,
         table.len(),
         room(both, dibits.len(), others.len()),
         room(both, reliabilities.len(), other_reliabilities.len()),
-    );
-    let verdict = c.verdict;
-    if is_accepted(verdict) {
-        let first = Running {
-            front,
-            chained: Chained {
-                place: chain,
-                records,
-                second,
-                written: 0,
-            },
-            from: 0,
-        };
-        let t = run(
-            first,
-            is_conjugated(chain.profile),
-            samples,
-            table,
-            &mut ring,
-            &mut planes,
-            &mut memory,
-            &mut ancestors,
-            &mut *dibits,
-            &mut *reliabilities,
-            &mut *others,
-            &mut *other_reliabilities,
-            both,
-        );
-        let after = t.chained;
-        let snapshot = snapshot_of(after.place);
-        let receiver = Receiver {
-            total: r.total + ((samples.len() / 2) as u64),
-            front: t.front,
-            chain: after.place,
-            records: after.records,
-            ring,
-            planes,
-            second: after.second,
-            memory,
-            ancestors,
-        };
-        return Block {
-            verdict: Verdict::Accepted,
-            count: after.written,
-            overload: c.overload,
-            snapshot,
-            receiver,
-        };
-    }
-    let receiver = Receiver {
-        total: r.total,
-        front,
-        chain,
-        records,
-        ring,
-        planes,
-        second,
-        memory,
-        ancestors,
+    )?;
+    let first = Running {
+        front: r.front,
+        chained: Chained {
+            place: r.chain,
+            records: r.records,
+            second: r.second,
+            written: 0,
+        },
+        from: 0,
     };
-    refused(verdict, receiver)
+    planes_sized(&r.planes);
+    let t = run(
+        first,
+        is_conjugated(r.chain.profile),
+        samples,
+        table,
+        &mut r.ring,
+        &mut r.planes,
+        &mut r.memory,
+        &mut r.ancestors,
+        dibits,
+        reliabilities,
+        others,
+        other_reliabilities,
+        both,
+    );
+    let after = t.chained;
+    r.total += (samples.len() / 2) as u64;
+    r.front = t.front;
+    r.chain = after.place;
+    r.records = after.records;
+    r.second = after.second;
+    Ok(Block {
+        count: after.written,
+        overload,
+        snapshot: snapshot_of(after.place),
+    })
 }

@@ -75,12 +75,9 @@ fn answered(number: u64, bytes: &mut [u8]) -> bool {
 
 fn main() {
     let mut bytes = [0u8; 65536];
-    let mut number: u64 = 1;
-    while number < 1000000000 {
-        if answered(number, &mut bytes) {
-            number += 1;
-        } else {
-            number = 1000000000;
+    for number in 1..1000000000u64 {
+        if !answered(number, &mut bytes) {
+            break;
         }
     }
 }

@@ -2,10 +2,11 @@
 ghost use Rattle.std.specs.Prelude.{◌<◌, ◌≤◌, length};
 
 use answers::PARENTS;
-use checks::refusal::number;
+use checks::refusal::Refusal;
 use numbers::bits::{float, float32};
 use receiver::block::Block;
-use receiver_state::state::Snapshot;
+use receiver::reading::Points;
+use receiver_state::state::{Receiver, Snapshot, zero, zero_snapshot};
 use replay::{mark, mixed, mixed_bytes, mixed_float, mixed_plane, next, unit, word};
 use replay_second::{Making, made_second};
 use replay_states::{WORDS, decoded, encode, profile_of, put_second};
@@ -45,19 +46,13 @@ pub fn entry_of(head: &[u8]) -> Entry
 
 // ---- what an entry answers
 
-fn wide32(x: u32) -> u64 {
-    x as u64
-}
-
 // The digest of some of a state's words.
 fn words_digest(words: &[u64; WORDS], from: usize, end: usize) -> u64
     requires { end ≤ 18262 }
 {
     let mut h: u64 = 0;
-    let mut i = from;
-    while i < end {
+    for i in from..end {
         h = mixed(h, words[i]);
-        i += 1;
     }
     h
 }
@@ -66,7 +61,7 @@ fn words_digest(words: &[u64; WORDS], from: usize, end: usize) -> u64
 fn print_answer(refusal: u32, count: u64, answer: u64, words: &[u64; WORDS]) {
     io::print_hex(
         OUT,
-        std::num::wrapping_add_u64(wide32(refusal), count << 4),
+        std::num::wrapping_add_u64(u64::from(refusal), count << 4),
         16,
     );
     io::write_all(OUT, b" ");
@@ -87,23 +82,28 @@ fn after(x: u8, last: u8) -> u8 {
 // 0, 1, 2 up to `last`, and again.
 fn fill_bytes(lent: &mut [u8], last: u8) {
     let mut x: u8 = 0;
-    let mut i = 0;
-    while i < lent.len() {
-        lent[i] = x;
+    for byte in lent.iter_mut() {
+        *byte = x;
         x = after(x, last);
-        i += 1;
     }
 }
 
 // ---- setup, enabling and read
 
+// The refusal's number, or 0.
+fn verdict<T: Copy>(answer: Result<T, Refusal>) -> u32 {
+    match answer {
+        Ok(_) => 0,
+        Err(refusal) => u32::from(refusal),
+    }
+}
+
+// A refused setup leaves the state of zeros.
 fn set_up_in(e: Entry, words: &mut [u64; WORDS], lent: &mut [f32]) -> u32 {
     let profile = profile_of(e.third);
     let s = receiver::setup::set_up(float(e.first), float(e.second), profile, lent);
-    let verdict = s.verdict;
-    let r = s.receiver;
-    encode(r, words);
-    number(verdict)
+    encode(&s.unwrap_or(zero()), words);
+    verdict(s)
 }
 
 pub fn set_up(e: Entry, words: &mut [u64; WORDS], table: &mut [f32]) {
@@ -111,27 +111,28 @@ pub fn set_up(e: Entry, words: &mut [u64; WORDS], table: &mut [f32]) {
     let room = e.fourth as usize;
     if room <= table.len() {
         let refusal = set_up_in(e, &mut *words, &mut table[..room]);
-        let answer = mixed(mixed_plane(0, table), wide32(refusal));
+        let answer = mixed(mixed_plane(0, table), u64::from(refusal));
         print_answer(refusal, 0, answer, words);
     }
 }
 
 pub fn enable(words: &mut [u64; WORDS]) {
-    let x = receiver::enable::enable(decoded(words));
-    let verdict = x.verdict;
-    let refusal = number(verdict);
-    let r = x.receiver;
-    encode(r, words);
-    print_answer(refusal, 0, mixed(0, wide32(refusal)), words);
+    let mut r = decoded(words);
+    let refusal = verdict(receiver::enable::enable(&mut r));
+    encode(&r, words);
+    print_answer(refusal, 0, mixed(0, u64::from(refusal)), words);
 }
 
 fn read_in(words: &[u64; WORDS], lent: &mut [f32]) {
     mark(&mut *lent);
-    let p = receiver::reading::read(decoded(words), &mut *lent);
-    let verdict = p.verdict;
-    let refusal = number(verdict);
+    let answer = receiver::reading::read(&decoded(words), &mut *lent);
+    let refusal = verdict(answer);
+    let p = answer.unwrap_or(Points {
+        count: 0,
+        error: 0.0,
+    });
     let count = p.count as u64;
-    let h = mixed_float(mixed(mixed(0, wide32(refusal)), count), p.error);
+    let h = mixed_float(mixed(mixed(0, u64::from(refusal)), count), p.error);
     print_answer(refusal, count, mixed_plane(h, lent), words);
 }
 
@@ -167,10 +168,8 @@ fn packed(input: &[u8], i: usize) -> f32
 fn unpack(input: &[u8], floats: &mut [f32], n: usize)
     requires { n ≤ length floats.old }
 {
-    let mut i = 0;
-    while i < n {
+    for i in 0..n {
         floats[i] = packed(input, i % 131080);
-        i += 1;
     }
 }
 
@@ -178,11 +177,9 @@ fn seed_samples(seed: u64, gain: f32, floats: &mut [f32], n: usize)
     requires { n ≤ length floats.old }
 {
     let mut s = seed;
-    let mut i = 0;
-    while i < n {
+    for i in 0..n {
         s = next(s);
         floats[i] = unit(s) * gain;
-        i += 1;
     }
 }
 
@@ -229,7 +226,7 @@ pub fn take_samples(e: Entry, input: &mut [u8], samples: &mut [f32]) -> bool {
 fn snapshot_digest(digest: u64, s: Snapshot) -> u64 {
     let a = mixed(mixed(digest, s.symbols), s.locked_symbols);
     let b = mixed_float(mixed_float(a, s.carrier_error), s.frequency_offset_hz);
-    mixed(b, wide32(s.carrier_locked))
+    mixed(b, u64::from(s.carrier_locked))
 }
 
 // What a block answers besides what it was lent.
@@ -240,18 +237,27 @@ struct BlockAnswer {
     digest: u64,
 }
 
-fn block_answer(b: Block, words: &mut [u64; WORDS]) -> BlockAnswer {
-    let verdict = b.verdict;
-    let refusal = number(verdict);
-    let count = b.count as u64;
-    let r = b.receiver;
+fn block_answer(
+    answer: Result<Block, Refusal>,
+    r: &Receiver,
+    words: &mut [u64; WORDS],
+) -> BlockAnswer {
     encode(r, words);
-    let snapshot = b.snapshot;
-    let h = mixed(mixed(mixed(0, wide32(refusal)), count), wide32(b.overload));
+    let refusal = verdict(answer);
+    let b = answer.unwrap_or(Block {
+        count: 0,
+        overload: 0,
+        snapshot: zero_snapshot(),
+    });
+    let count = b.count as u64;
+    let h = mixed(
+        mixed(mixed(0, u64::from(refusal)), count),
+        u64::from(b.overload),
+    );
     BlockAnswer {
         refusal,
         count,
-        digest: snapshot_digest(h, snapshot),
+        digest: snapshot_digest(h, b.snapshot),
     }
 }
 
@@ -264,14 +270,9 @@ fn block_in(
 ) {
     fill_bytes(&mut *dibits, 250);
     fill_bytes(&mut *reliabilities, 240);
-    let b = receiver::block::take(
-        decoded(words),
-        table,
-        samples,
-        &mut *dibits,
-        &mut *reliabilities,
-    );
-    let a = block_answer(b, words);
+    let mut r = decoded(words);
+    let b = receiver::block::take(&mut r, table, samples, &mut *dibits, &mut *reliabilities);
+    let a = block_answer(b, &r, words);
     let h = mixed_bytes(mixed_bytes(a.digest, dibits), reliabilities);
     print_answer(a.refusal, a.count, h, words);
 }
@@ -320,8 +321,9 @@ fn both_in(
     fill_bytes(&mut *reliabilities, 240);
     fill_bytes(&mut *others, 238);
     fill_bytes(&mut *other_reliabilities, 232);
+    let mut r = decoded(words);
     let b = receiver::block::take_both(
-        decoded(words),
+        &mut r,
         table,
         samples,
         &mut *dibits,
@@ -329,7 +331,7 @@ fn both_in(
         &mut *others,
         &mut *other_reliabilities,
     );
-    let a = block_answer(b, words);
+    let a = block_answer(b, &r, words);
     let first = mixed_bytes(mixed_bytes(a.digest, dibits), reliabilities);
     let h = mixed_bytes(mixed_bytes(first, others), other_reliabilities);
     print_answer(a.refusal, a.count, h, words);
@@ -425,10 +427,8 @@ pub fn put_word(e: Entry, words: &mut [u64; WORDS]) {
 fn take_words(input: &[u8], given: usize, words: &mut [u64; WORDS])
     requires { 146096 ≤ length input.now }
 {
-    let mut i = 0;
-    while i < WORDS {
+    for i in 0..WORDS {
         words[i] = if i < given { word(input, 8 * i) } else { 0 };
-        i += 1;
     }
     words[48] = 0;
     words[49] = 0;

@@ -70,9 +70,8 @@ fn main() {
     let mut reliabilities = [0u8; 524320];
     let mut others = [0u8; 524320];
     let mut other_reliabilities = [0u8; 524320];
-    let mut left: u64 = 1000000000;
-    while left > 0 {
-        if answered(
+    for _ in 0..1000000000u64 {
+        if !answered(
             &mut words,
             &mut table,
             &mut input,
@@ -82,9 +81,7 @@ fn main() {
             &mut others,
             &mut other_reliabilities,
         ) {
-            left -= 1;
-        } else {
-            left = 0;
+            break;
         }
     }
 }

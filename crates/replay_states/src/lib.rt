@@ -110,10 +110,8 @@ fn records_at(words: &[u64; WORDS], from: usize) -> Records
     requires { from + 159 < 18262 }
 {
     let mut records = Records { slots: [None; 32] };
-    let mut i = 0;
-    while i < 32 {
+    for i in 0..32 {
         records.slots[i] = soft_at(words, from + 5 * i);
-        i += 1;
     }
     records
 }
@@ -243,10 +241,8 @@ fn word_at(words: &[u64; WORDS], at: usize) -> u64 {
 fn take_plane(words: &[u64; WORDS], from: usize, plane: &mut [f32])
     requires { from < 18262 }
 {
-    let mut i = 0;
-    while i < plane.len() {
+    for i in 0..plane.len() {
         plane[i] = float32(low(word_at(words, from + i)));
-        i += 1;
     }
 }
 
@@ -261,10 +257,8 @@ fn take_planes<const N: usize>(words: &[u64; WORDS], from: usize, planes: &mut P
 fn take_parents(words: &[u64; WORDS], from: usize, parents: &mut [u8; PARENTS])
     requires { from + 2047 < 18262 }
 {
-    let mut i = 0;
-    while i < PARENTS {
+    for i in 0..PARENTS {
         parents[i] = (words[from + i] % 256) as u8;
-        i += 1;
     }
 }
 
@@ -290,18 +284,10 @@ pub fn decoded(words: &[u64; WORDS]) -> Receiver {
 
 // ---- numbers to words
 
-fn wide8(x: u8) -> u64 {
-    x as u64
-}
-
-fn wide32(x: u32) -> u64 {
-    x as u64
-}
-
 fn put_flag(words: &mut [u64; WORDS], at: usize, flag: bool)
     requires { at < 18262 }
 {
-    words[at] = if flag { 1 } else { 0 };
+    words[at] = u64::from(flag);
 }
 
 fn put_float(words: &mut [u64; WORDS], at: usize, x: f64)
@@ -313,7 +299,7 @@ fn put_float(words: &mut [u64; WORDS], at: usize, x: f64)
 fn put_float32(words: &mut [u64; WORDS], at: usize, x: f32)
     requires { at < 18262 }
 {
-    words[at] = pattern32(x) as u64;
+    words[at] = u64::from(pattern32(x));
 }
 
 fn profile_word(p: i32) -> u64 {
@@ -394,10 +380,8 @@ fn put_soft(words: &mut [u64; WORDS], at: usize, soft: Option<Soft>)
 fn put_records(words: &mut [u64; WORDS], from: usize, records: Records)
     requires { from + 159 < 18262 }
 {
-    let mut i = 0;
-    while i < 32 {
+    for i in 0..32 {
         put_soft(words, from + 5 * i, records.slots[i]);
-        i += 1;
     }
 }
 
@@ -418,12 +402,10 @@ fn put_three(words: &mut [u64; WORDS], at: usize, first: u64, second: u64, third
 }
 
 fn put_decimator(words: &mut [u64; WORDS], d: Decimator) {
-    let integrators = d.integrators;
-    let combs = d.combs;
-    let a = integrators.real;
-    let b = integrators.imaginary;
-    let x = combs.real;
-    let y = combs.imaginary;
+    let a = d.integrators.real;
+    let b = d.integrators.imaginary;
+    let x = d.combs.real;
+    let y = d.combs.imaginary;
     words[7] = d.decimation as u64;
     words[8] = d.counter as u64;
     put_three(words, 9, a.first, a.second, a.third);
@@ -469,12 +451,10 @@ fn put_loop(words: &mut [u64; WORDS], at: usize, l: Loop)
 fn put_detector(words: &mut [u64; WORDS], at: usize, d: DetectorPlace)
     requires { at + 10 < 18262 }
 {
-    let previous = d.previous;
-    let combined = d.combined;
     words[at] = d.write as u64;
     words[at + 1] = d.filled as u64;
-    put_previous(words, at + 2, previous);
-    put_observation(words, at + 4, combined);
+    put_previous(words, at + 2, d.previous);
+    put_observation(words, at + 4, d.combined);
     put_three(words, at + 7, 0, 0, 0);
     put_float32(words, at + 10, d.noise);
 }
@@ -487,8 +467,7 @@ fn put_carrier(words: &mut [u64; WORDS], at: usize, c: CarrierPlace)
 }
 
 fn put_view(words: &mut [u64; WORDS], v: ViewPlace) {
-    let previous = v.previous;
-    put_observation(words, 52, previous);
+    put_observation(words, 52, v.previous);
     words[55] = v.head as u64;
     words[56] = v.count as u64;
 }
@@ -513,13 +492,11 @@ fn put_chain(words: &mut [u64; WORDS], c: ChainPlace) {
 fn put_plane(words: &mut [u64; WORDS], from: usize, plane: &[f32])
     requires { from < 18262 }
 {
-    let mut i = 0;
-    while i < plane.len() {
+    for i in 0..plane.len() {
         let at = from + i;
         if at < WORDS {
-            words[at] = wide32(pattern32(plane[i]));
+            words[at] = u64::from(pattern32(plane[i]));
         }
-        i += 1;
     }
 }
 
@@ -534,10 +511,8 @@ fn put_planes<const N: usize>(words: &mut [u64; WORDS], from: usize, planes: &Pl
 fn put_parents(words: &mut [u64; WORDS], from: usize, parents: &[u8; PARENTS])
     requires { from + 2047 < 18262 }
 {
-    let mut i = 0;
-    while i < PARENTS {
-        words[from + i] = wide8(parents[i]);
-        i += 1;
+    for i in 0..PARENTS {
+        words[from + i] = u64::from(parents[i]);
     }
 }
 
@@ -554,7 +529,7 @@ pub fn put_second(
     put_parents(words, 16214, ancestors);
 }
 
-pub fn encode(r: Receiver, words: &mut [u64; WORDS]) {
+pub fn encode(r: &Receiver, words: &mut [u64; WORDS]) {
     words[0] = r.total;
     put_front(words, r.front);
     put_chain(words, r.chain);

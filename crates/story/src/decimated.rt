@@ -43,11 +43,9 @@ fn last_of_zeros(first: Decimator) -> u64
 {
     let mut d = first;
     let mut last: u64 = 0;
-    let mut n: u64 = 0;
-    while n < 2048 {
-        n += 1;
+    for n in 0..2048 {
         let s = decimator::stepped(d, complex::zero());
-        last = later(last, n, is_heard(s.output));
+        last = later(last, n + 1, is_heard(s.output));
         d = s.decimator;
     }
     last
@@ -70,14 +68,11 @@ fn beside(one: Decimator, other: Decimator, samples: &[f32]) -> Compared
     let mut b = other;
     let mut made: u64 = 0;
     let mut unlike: u64 = 0;
-    let n = samples.len() / 2;
-    let mut i = 0;
-    while i < n {
+    for i in 0..samples.len() / 2 {
         let z = Complex32 {
             real: samples[2 * i],
             imaginary: samples[2 * i + 1],
         };
-        i += 1;
         let s = decimator::stepped(a, z);
         let t = decimator::stepped(b, z);
         made = plus(made, s.output.is_some());

@@ -7,13 +7,6 @@ use replay::mixed_plane;
 
 const OUT: i32 = 1;
 
-// A receiver after a block, and the digest of the last 64 values from its front.
-#[derive(Clone, Copy)]
-struct Taken {
-    receiver: Receiver,
-    values: u64,
-}
-
 fn print_dibit(dibit: u8, first: u8, second: u8) {
     io::print_decimal(OUT, dibit as u64);
     io::write_all(OUT, b" ");
@@ -24,37 +17,32 @@ fn print_dibit(dibit: u8, first: u8, second: u8) {
 }
 
 fn print_dibits(dibits: &[u8; 2052], reliabilities: &[u8; 4104], count: usize) {
-    let mut i = 0;
-    while i < 2052 && i < count {
+    for i in 0..count.min(2052) {
         print_dibit(dibits[i], reliabilities[2 * i], reliabilities[2 * i + 1]);
-        i += 1;
     }
 }
 
 // The peak keeper holds the last 64 values from the front, and a block makes 52 at most.
-fn values(r: Receiver) -> u64 {
+fn values(r: &Receiver) -> u64 {
     mixed_plane(
         mixed_plane(0, &r.planes.recovery.keeper.real),
         &r.planes.recovery.keeper.imaginary,
     )
 }
 
-fn heard(r: Receiver, table: &[f32], block: &[f32], told: bool) -> Taken {
+// A block is taken, and its dibits told.
+fn heard(r: &mut Receiver, table: &[f32], block: &[f32], told: bool) {
     let mut dibits = [0u8; 2052];
     let mut reliabilities = [0u8; 4104];
-    let b = receiver::block::take(r, table, block, &mut dibits, &mut reliabilities);
-    if told {
-        print_dibits(&dibits, &reliabilities, b.count);
-    }
-    let after = b.receiver;
-    Taken {
-        receiver: after,
-        values: values(after),
+    if let Ok(b) = receiver::block::take(r, table, block, &mut dibits, &mut reliabilities) {
+        if told {
+            print_dibits(&dibits, &reliabilities, b.count);
+        }
     }
 }
 
 // What is told after a block: the fourth ends the neighbour, the sixth the silence.
-fn tell(r: Receiver, k: usize, samples: &[f32]) {
+fn tell(r: &Receiver, k: usize, samples: &[f32]) {
     if k == 3 {
         told_off(r);
     } else if k == 5 {
@@ -67,16 +55,15 @@ pub fn hear(rate: f64, offset: f64, samples: &[f32], told: bool, digests: &mut [
     requires { length samples.now ≡ 49152 }
 {
     let mut table = [0.0; 18432];
-    let s = receiver::setup::set_up(rate, offset, 0, &mut table);
-    let mut r = s.receiver;
-    let mut k = 0;
-    while k < 24 {
-        let h = heard(r, &table, &samples[2048 * k..2048 * k + 2048], told);
-        digests[k] = h.values;
-        r = h.receiver;
+    let mut r = match receiver::setup::set_up(rate, offset, 0, &mut table) {
+        Ok(fresh) => fresh,
+        Err(_) => receiver_state::state::zero(),
+    };
+    for k in 0..24 {
+        heard(&mut r, &table, &samples[2048 * k..2048 * k + 2048], told);
+        digests[k] = values(&r);
         if told {
-            tell(r, k, samples);
+            tell(&r, k, samples);
         }
-        k += 1;
     }
 }

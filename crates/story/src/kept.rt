@@ -23,12 +23,10 @@ pub fn is_zero(real: f32, imaginary: f32) -> bool {
 }
 
 // After the neighbour, the decimator is given zeros.
-pub fn told_off(r: Receiver) {
-    let front = r.front;
-    let decimator = front.decimator;
+pub fn told_off(r: &Receiver) {
     print(
         b"neighbour off: the last decimated value that is not 0 comes with sample ",
-        last_value(decimator),
+        last_value(r.front.decimator),
     );
     io::write_all(OUT, b"\n");
 }
@@ -36,19 +34,16 @@ pub fn told_off(r: Receiver) {
 // How many of the ring's first values are not 0.
 fn not_zero(ring: &Planes<592>, count: usize) -> u64 {
     let mut n: u64 = 0;
-    let mut i = 0;
-    while i < 592 && i < count {
+    for i in 0..count.min(592) {
         n = plus(n, !is_zero(ring.real[i], ring.imaginary[i]));
-        i += 1;
     }
     n
 }
 
-fn print_ring(r: Receiver) {
-    let front = r.front;
-    let resampler = front.resampler;
-    if resampler.arm <= 576 {
-        let places = resampler.arm + 16;
+fn print_ring(r: &Receiver) {
+    let arm = r.front.resampler.arm;
+    if arm <= 576 {
+        let places = arm + 16;
         print(
             b"silence over: values in the ring that are not 0: ",
             not_zero(&r.ring, places),
@@ -59,11 +54,9 @@ fn print_ring(r: Receiver) {
 }
 
 // After the silence: the ring, and the decimator on the samples to come beside a fresh one.
-pub fn told_over(r: Receiver, samples: &[f32]) {
+pub fn told_over(r: &Receiver, samples: &[f32]) {
     print_ring(r);
-    let front = r.front;
-    let decimator = front.decimator;
-    let u = unlike_fresh(decimator, samples);
+    let u = unlike_fresh(r.front.decimator, samples);
     print(
         b"decimated values after it unlike a fresh decimator's: ",
         u.unlike,
@@ -75,10 +68,8 @@ pub fn told_over(r: Receiver, samples: &[f32]) {
 // How many of the blocks from one on, up to another, have unlike digests.
 fn unlike(with: &[u64; 24], without: &[u64; 24], from: usize, end: usize) -> u64 {
     let mut n: u64 = 0;
-    let mut k = from;
-    while k < 24 && k < end {
+    for k in from..end.min(24) {
         n = plus(n, with[k] != without[k]);
-        k += 1;
     }
     n
 }

@@ -25,11 +25,7 @@ fn silence(samples: &mut [f32], count: usize)
     requires { count ≤ length samples.old }
     ensures { length samples.new ≡ length samples.old }
 {
-    let mut i = 0;
-    while i < count {
-        samples[i] = 0.0;
-        i += 1;
-    }
+    samples[..count].fill(0.0);
 }
 
 // The whole story, and then without the neighbour.

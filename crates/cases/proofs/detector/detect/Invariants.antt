@@ -1,9 +1,6 @@
--- `cases::detector::detect` is safe and ends: each step leaves a detector that may be run.
+-- `cases::detector::detect` is safe: each step leaves a detector that may be run.
 use Rattle.lms_detector.specs.Ranges.{Ranged}
 use Rattle.cases.proofs.detector.detect.Given as goal
 
-abbrev pub invariant-loop-left : goal.invariant-loop-left
-invariant-loop-left l = Ranged l.place l.real l.imaginary l.costs l.parents
-
-abbrev pub decreases-loop-left : goal.decreases-loop-left
-decreases-loop-left l = l.left
+abbrev pub invariant-loop : goal.invariant-loop
+invariant-loop l = Ranged l.place l.real l.imaginary l.costs l.parents

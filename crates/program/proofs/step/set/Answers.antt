@@ -11,23 +11,22 @@ float-requires c = whole_room _ _ _ _ c.is_whole.ensures c.if-is_whole.true (ome
 pub float-requires-then-is_whole : goal.float-requires-then-is_whole
 float-requires-then-is_whole c = whole_room _ _ _ _ c.is_whole.ensures c.if-is_whole.true (omega arith)
 
-pub returns-then-is_accepted : goal.returns-then-is_accepted
-returns-then-is_accepted c =
+pub returns-in-Ok : goal.returns-in-Ok
+returns-in-Ok c =
     record {
-      same = settings_on _ _ _ c.is_whole.ensures c.if-is_whole.true c.set_up-s.result _ _ _ c.float.ensures c.float-then-is_whole.ensures c.set_up-s.ensures _ _ _ _
-          c.is_accepted.ensures c.if-is_accepted.true;
-      made = table_made _ _ _ c.is_whole.ensures c.if-is_whole.true c.set_up-s.result _ _ _ c.float.ensures c.float-then-is_whole.ensures c.set_up-s.ensures;
+      same = settings_on _ _ _ c.is_whole.ensures c.if-is_whole.true c.set_up.result _ _ _ c.float.ensures c.float-then-is_whole.ensures c.set_up.ensures _ _ _ _ c.in-Ok.is;
+      made = table_made _ _ _ c.is_whole.ensures c.if-is_whole.true c.set_up.result _ _ _ c.float.ensures c.float-then-is_whole.ensures c.set_up.ensures;
       near = omega arith;
       kept = refl;
       on = record { few = omega arith; less = omega arith };
     }
 
-pub returns-then-is_whole : goal.returns-then-is_whole
-returns-then-is_whole c =
+pub returns-in-Err : goal.returns-in-Err
+returns-in-Err c =
     record {
-      same = settings_refused _ _ _ c.is_whole.ensures c.if-is_whole.true c.set_up-s.result _ _ _ c.float.ensures c.float-then-is_whole.ensures c.set_up-s.ensures _ _ _ _
-          c.is_accepted.ensures _ c.if-is_accepted.false c.refused.ensures.same;
-      made = table_made _ _ _ c.is_whole.ensures c.if-is_whole.true c.set_up-s.result _ _ _ c.float.ensures c.float-then-is_whole.ensures c.set_up-s.ensures;
+      same = settings_refused _ _ _ c.is_whole.ensures c.if-is_whole.true c.set_up.result _ _ _ c.float.ensures c.float-then-is_whole.ensures c.set_up.ensures _ _ _ _ _
+          c.in-Err.is c.refused.ensures.same;
+      made = table_made _ _ _ c.is_whole.ensures c.if-is_whole.true c.set_up.result _ _ _ c.float.ensures c.float-then-is_whole.ensures c.set_up.ensures;
       near = c.refused.ensures.near;
       kept = c.refused.ensures.kept;
       on = refused_moves Settings _ _ _ c.refused.result _ _ c.refused.ensures.same (omega arith);

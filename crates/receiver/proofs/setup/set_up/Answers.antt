@@ -6,24 +6,20 @@ use native.Mathlib.Omega.{arith}
 use Rattle.receiver.proofs.setup.set_up.Goals as goal
 
 pub returns-then-rate_is_refused : goal.returns-then-rate_is_refused
-returns-then-rate_is_refused c = setup_rate _ _ _ _ _ _ c.rate_is_refused.ensures c.if-rate_is_refused.true c.refused.ensures
+returns-then-rate_is_refused c = setup_rate _ _ _ _ _ c.rate_is_refused.ensures c.if-rate_is_refused.true
 
 pub returns-then-offset_is_refused : goal.returns-then-offset_is_refused
 returns-then-offset_is_refused c =
-    setup_offset _ _ _ _ _ _ _ c.rate_is_refused.ensures c.if-rate_is_refused.false c.offset_is_refused.ensures c.if-offset_is_refused.true c.refused-then-offset_is_refused.ensures
+    setup_offset _ _ _ _ _ _ c.rate_is_refused.ensures c.if-rate_is_refused.false c.offset_is_refused.ensures c.if-offset_is_refused.true
 
 pub sized-d-requires : goal.sized-d-requires
 sized-d-requires c = rate_admitted _ _ c.rate_is_refused.ensures c.if-rate_is_refused.false
 
 pub returns-then-table-d : goal.returns-then-table-d
 returns-then-table-d c =
-    setup_table _ _ _ _ _ _ _ _ c.rate_is_refused.ensures c.if-rate_is_refused.false c.offset_is_refused.ensures c.if-offset_is_refused.false c.sized-d.ensures.same c.if-table-d.true c.refused-then-table-d.ensures
+    setup_table _ _ _ _ _ _ _ c.rate_is_refused.ensures c.if-rate_is_refused.false c.offset_is_refused.ensures c.if-offset_is_refused.false c.sized-d.ensures.same c.if-table-d.true
 
 pub returns : goal.returns
 returns c =
-    let at_write_table = c.before.before.before.before in
-    let test3 = at_write_table.before.before in
-    let at_sized = test3.before.before in
-    let test2 = at_sized.before in
     setup_accepted _ _ _ _ _ _ _ _ _ _ c.rate_is_refused.ensures c.if-rate_is_refused.false c.offset_is_refused.ensures c.if-offset_is_refused.false c.sized-d.ensures.same (omega
-    (arith, c.if-table-d.false)) c.write_table.ensures c.front_at-front.ensures (rw (to_z-of_z c.ranges.profile) at c.fresh-receiver.ensures)
+    (arith, c.if-table-d.false)) c.write_table.ensures c.front_at-front.ensures (rw (to_z-of_z c.ranges.profile) at c.fresh.ensures)

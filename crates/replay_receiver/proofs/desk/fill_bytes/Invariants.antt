@@ -1,9 +1,0 @@
--- `replay_receiver::desk::fill_bytes` is safe and ends.
-use Rattle.std.proofs.Common.{◌≡◌, ◌-◌, ◌≤◌, length}
-use Rattle.replay_receiver.proofs.desk.fill_bytes.Given as goal
-
-abbrev pub invariant-loop-i : goal.invariant-loop-i
-invariant-loop-i l = (l.i ≤ length l.initial.lent) × (length l.lent ≡ length l.initial.lent)
-
-abbrev pub decreases-loop-i : goal.decreases-loop-i
-decreases-loop-i l = length l.initial.lent - l.i
