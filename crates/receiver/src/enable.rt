@@ -2,8 +2,8 @@
 ghost use Rattle.std.specs.Prelude.{◌≡◌};
 ghost use Rattle.receiver.specs.Enable.{enabled_now, enable_of};
 
+use super::admitted::is_admitted;
 use answers::PARENTS;
-use checks::admitted::is_admitted;
 use checks::refusal::Refusal;
 use receiver_state::state::Receiver;
 
@@ -12,14 +12,7 @@ use receiver_state::state::Receiver;
 pub fn enable(r: &mut Receiver) -> Result<(), Refusal>
     ensures { enabled_now result r.new ≡ enable_of r.old }
 {
-    if !is_admitted(
-        r.total,
-        r.front,
-        r.chain,
-        r.second,
-        &r.planes.decisions.parents,
-        &r.ancestors,
-    ) {
+    if !is_admitted(r) {
         return Err(Refusal::State);
     }
     if !r.second.enabled {

@@ -3,6 +3,7 @@
 
 #![tactic(auto)]
 
+mod admitted;
 pub mod block;
 pub mod enable;
 pub mod reading;

@@ -2,7 +2,7 @@
 ghost use Rattle.std.specs.Prelude.{◌≡◌};
 ghost use Rattle.receiver.specs.Reading.{points_now, reading_of};
 
-use checks::admitted::is_admitted;
+use super::admitted::is_admitted;
 use checks::refusal::Refusal;
 use receiver_state::state::Receiver;
 
@@ -16,14 +16,7 @@ pub struct Points {
 pub fn read(r: &Receiver, output: &mut [f32]) -> Result<Points, Refusal>
     ensures { points_now result output.new ≡ reading_of r.now output.old }
 {
-    if !is_admitted(
-        r.total,
-        r.front,
-        r.chain,
-        r.second,
-        &r.planes.decisions.parents,
-        &r.ancestors,
-    ) {
+    if !is_admitted(r) {
         return Err(Refusal::State);
     }
     let p = signal::read(

@@ -1,6 +1,6 @@
 // The whole state: small places by value, and the planes that a block lends to its steps.
 ghost use Rattle.std.specs.Prelude.{◌≡◌};
-ghost use Rattle.receiver_state.specs.State.{fresh_receiver, zero_front, zero_carrier, zero_chain, zero_second, zero_receiver, zero_snapshot, flag_of, snapshot_of};
+ghost use Rattle.receiver_state.specs.State.{planes_with, fresh_receiver, zero_front, zero_carrier, zero_chain, zero_second, zero_receiver, zero_snapshot, flag_of, snapshot_of};
 
 use answers::soft::Records;
 use answers::{PARENTS, STEPS};
@@ -128,6 +128,40 @@ fn zero_second() -> Second
     }
 }
 
+// The chain's planes with these real parts of the weights and of the channels, and zeros elsewhere.
+fn planes_with(weights: [f32; WEIGHTS], channels: [f32; CHANNELS]) -> ChainPlanes
+    ensures { result ≡ planes_with weights channels }
+{
+    ChainPlanes {
+        recovery: RecoveryPlanes {
+            keeper: Planes {
+                real: [0.0; VALUES],
+                imaginary: [0.0; VALUES],
+            },
+            clock: Planes {
+                real: [0.0; RING],
+                imaginary: [0.0; RING],
+            },
+            weights: Planes {
+                real: weights,
+                imaginary: [0.0; WEIGHTS],
+            },
+        },
+        decisions: DecisionsPlanes {
+            channels: Planes {
+                real: channels,
+                imaginary: [0.0; CHANNELS],
+            },
+            costs: [0.0; STATES],
+            parents: [0; PARENTS],
+            view: Planes {
+                real: [0.0; POINTS],
+                imaginary: [0.0; POINTS],
+            },
+        },
+    }
+}
+
 // Every number zero, every flag false, every option absent: not admitted.
 pub fn zero() -> Receiver
     ensures { result ≡ zero_receiver }
@@ -143,34 +177,7 @@ pub fn zero() -> Receiver
             real: [0.0; PLACES],
             imaginary: [0.0; PLACES],
         },
-        planes: ChainPlanes {
-            recovery: RecoveryPlanes {
-                keeper: Planes {
-                    real: [0.0; VALUES],
-                    imaginary: [0.0; VALUES],
-                },
-                clock: Planes {
-                    real: [0.0; RING],
-                    imaginary: [0.0; RING],
-                },
-                weights: Planes {
-                    real: [0.0; WEIGHTS],
-                    imaginary: [0.0; WEIGHTS],
-                },
-            },
-            decisions: DecisionsPlanes {
-                channels: Planes {
-                    real: [0.0; CHANNELS],
-                    imaginary: [0.0; CHANNELS],
-                },
-                costs: [0.0; STATES],
-                parents: [0; PARENTS],
-                view: Planes {
-                    real: [0.0; POINTS],
-                    imaginary: [0.0; POINTS],
-                },
-            },
-        },
+        planes: planes_with([0.0; WEIGHTS], [0.0; CHANNELS]),
         second: zero_second(),
         memory: [0.0; MEMORY],
         ancestors: [0; PARENTS],
@@ -189,34 +196,7 @@ pub fn fresh(front: FrontPlace, profile: i32) -> Receiver
             real: [0.0; PLACES],
             imaginary: [0.0; PLACES],
         },
-        planes: ChainPlanes {
-            recovery: RecoveryPlanes {
-                keeper: Planes {
-                    real: [0.0; VALUES],
-                    imaginary: [0.0; VALUES],
-                },
-                clock: Planes {
-                    real: [0.0; RING],
-                    imaginary: [0.0; RING],
-                },
-                weights: Planes {
-                    real: equalizer::fresh_real(),
-                    imaginary: [0.0; WEIGHTS],
-                },
-            },
-            decisions: DecisionsPlanes {
-                channels: Planes {
-                    real: sequence::step::fresh_channels(),
-                    imaginary: [0.0; CHANNELS],
-                },
-                costs: [0.0; STATES],
-                parents: [0; PARENTS],
-                view: Planes {
-                    real: [0.0; POINTS],
-                    imaginary: [0.0; POINTS],
-                },
-            },
-        },
+        planes: planes_with(equalizer::fresh_real(), sequence::step::fresh_channels()),
         second: zero_second(),
         memory: [0.0; MEMORY],
         ancestors: [0; PARENTS],

@@ -7,4 +7,4 @@ use Rattle.receiver_state.proofs.state.fresh.Goals as goal
 pub returns : goal.returns
 unfolding fresh_receiver of_bits
 returns c =
-    rw (c.zero_second.ensures, c.fresh_channels.ensures, c.fresh_real.ensures, c.fresh_records.ensures, c.fresh.ensures, to_z-of_z c.ranges.profile)
+    rw (c.zero_second.ensures, c.planes_with.ensures, c.fresh_channels.ensures, c.fresh_real.ensures, c.fresh_records.ensures, c.fresh.ensures, to_z-of_z c.ranges.profile)

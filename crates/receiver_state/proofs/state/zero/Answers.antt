@@ -5,4 +5,4 @@ use Rattle.receiver_state.proofs.state.zero.Goals as goal
 
 pub returns : goal.returns
 unfolding zero_receiver of_bits
-returns c = rw (c.zero_second.ensures, c.zero_chain.ensures, c.zero_front.ensures)
+returns c = rw (c.zero_second.ensures, c.planes_with.ensures, c.zero_chain.ensures, c.zero_front.ensures)
