@@ -4,6 +4,8 @@ use Rattle.std.proofs.Math.Path.{sym, ap}
 use Rattle.std.proofs.Common.{◌∙◌, arith}
 use Rattle.std.proofs.lemmas.Bool.{false≢true}
 use Rattle.oscillator.specs.Oscillator.{conjugated_of}
+use Rattle.second.specs.Second.{second_of}
+use Rattle.second.specs.Parts.{split_join}
 use Rattle.second.specs.AdmittedLaws.{place_ranged}
 use Rattle.checks.specs.declared.refusal.Refusal.{Refusal}
 use Rattle.receiver_state.specs.declared.state.Receiver.{Receiver}
@@ -17,6 +19,7 @@ use Rattle.checks.specs.Ways.{number_not}
 use Rattle.run.specs.Run.{Whole, whole_run_of, Going, ReadyRun}
 use Rattle.checks.specs.Checks.{judged_now}
 use Rattle.receiver.specs.Accepted.{ReadyBlock, take_asks}
+use Rattle.receiver.specs.Absent.{whole_given, run_off}
 use Rattle.receiver.specs.Block.{Rooms, NoneLent, room_of, dibit_room, reliability_room, start_with, start_of, receiver_with, floats_of, Outcome, outcome_now, ended_with, ended_of, accepted_of, block_of}
 
 -- ---- the rooms
@@ -122,6 +125,47 @@ run_admitted conjugated r table xs memory o w left k g =
 run_most : (conjugated : Bool) (r : Receiver) (table xs memory : List Float) (o : Rooms) (w : Whole) → Going conjugated table xs (start_with r memory o) w → w.lent.room.written ≤ length xs
 run_most conjugated r table xs memory o w g = let n : w.from ≤ length xs / 2 = g.high in let m = g.left.most in omega arith
 
+-- ---- an accepted block
+module _ (r : Receiver) (table xs : List Float) (overload : ℕ) (o : Rooms) where
+  abbrev total : ℕ
+  total = r.total + count_of xs
+
+  -- what the definition's run leaves
+  abbrev ended : Outcome
+  ended = ended_of total overload (whole_run_of (conjugated_of r.chain.profile) table xs (start_of r o))
+
+  -- what the code makes of its own run
+  abbrev made : Whole → Snapshot → Result Block Refusal
+  made w s = Ok (record { count = w.lent.room.written; overload = overload; snapshot = s })
+
+  pub accepted_is : (conjugated : Bool) (memory : List Float) (w : Whole) (s : Snapshot) (left : List Float) → Ready r table xs o → Going conjugated table xs (start_with r memory o) w
+      → s ≡ snapshot_of w.lent.state.place → ended_with total overload w left ≡ ended
+      → (outcome_now (made w s) (receiver_with total w left) w.lent.room.dibits w.lent.room.reliabilities w.lent.other.dibits w.lent.other.reliabilities ≡ accepted_of r table xs overload o)
+      × ((admitted_of (receiver_with total w left) ≡ true) × (w.lent.room.written ≤ length xs))
+  unfolding accepted_of
+  accepted_is conjugated memory w s left k g se en = (
+    ap (λ (t : Snapshot). outcome_now (made w t) (receiver_with total w left) w.lent.room.dibits w.lent.room.reliabilities w.lent.other.dibits w.lent.other.reliabilities) se ∙ en,
+    (run_admitted conjugated r table xs memory o w left k g, run_most conjugated r table xs memory o w g),
+  )
+
+  -- with the second stream's floats taken out and put back
+  pub ended_both : (conjugated : Bool) (w : Whole) (left : List Float) → conjugated ≡ conjugated_of r.chain.profile → w ≡ whole_run_of conjugated table xs (start_of r o) → floats_of w ≡ left
+      → ended_with total overload w left ≡ ended
+  ended_both conjugated w left ce we fe =
+      ap (ended_with total overload w) (sym fe) ∙ ap (ended_of total overload) (we ∙ ap (λ (b : Bool). whole_run_of b table xs (start_of r o)) ce)
+
+  -- with others in their place, while the second is not enabled
+  pub ended_one : (conjugated : Bool) (memory : List Float) (w : Whole) → r.second.enabled ≡ false → length r.memory ≡ 9280 → conjugated ≡ conjugated_of r.chain.profile
+      → w ≡ whole_run_of conjugated table xs (start_with r memory o) → ended_with total overload w r.memory ≡ ended
+  ended_one conjugated memory w off size ce we =
+      let profile = conjugated_of r.chain.profile in
+      let first = start_with r memory o in
+      let own = second_of r.second memory r.ancestors in
+      let kept = second_of r.second r.memory r.ancestors in
+      ap (λ (v : Whole). ended_with total overload v r.memory) (we ∙ ap (λ (b : Bool). whole_run_of b table xs first) ce ∙ run_off own off profile table xs first off)
+      ∙ ap (ended_with total overload (whole_given kept off (whole_run_of profile table xs first))) (sym (split_join r.memory size))
+      ∙ ap (ended_of total overload) (sym (run_off kept off profile table xs first off))
+
 -- ---- the call
 
 -- the rooms that the checks looked at
@@ -135,20 +179,26 @@ module _ (r : Receiver) (table xs : List Float) (o : Rooms) where
   unfolding block_of
   take_refused e j = rw (← j, number_not e)
 
-  abbrev total : ℕ
-  total = r.total + count_of xs
+  module _ (overload : ℕ) (je : judged_now (Ok overload) ≡ judged_of r xs (length table) (dibit_room o) (reliability_room o)) where
+    take_accepted : (x : Result Block Refusal) (q : Receiver) (ds rs es qs : List ℕ) → outcome_now x q ds rs es qs ≡ accepted_of r table xs overload o → outcome_now x q ds rs es qs ≡ block_of r table xs o
+    unfolding block_of
+    take_accepted x q ds rs es qs h = rw (← je) h
 
-  -- an accepted block, from what the run left
-  pub taken_is : (overload : ℕ) (conjugated : Bool) (w : Whole) (s : Snapshot) (left : List Float) → judged_now (Ok overload) ≡ judged_of r xs (length table) (dibit_room o) (reliability_room o)
-      → conjugated ≡ conjugated_of r.chain.profile → w ≡ whole_run_of conjugated table xs (start_of r o) → Going conjugated table xs (start_of r o) w → s ≡ snapshot_of w.lent.state.place
-      → floats_of w ≡ left
-      → (outcome_now (Ok (record { count = w.lent.room.written; overload = overload; snapshot = s })) (receiver_with total w left) w.lent.room.dibits w.lent.room.reliabilities w.lent.other.dibits w.lent.other.reliabilities
-      ≡ block_of r table xs o)
-      × (admitted_of (receiver_with total w left) ≡ true)
-      × (w.lent.room.written ≤ length xs)
-  unfolding block_of accepted_of
-  taken_is overload conjugated w s left je ce we g se fe =
-      let asks = take_asks r table xs (dibit_room o) (reliability_room o) overload je in
-      let ended = ap (ended_with total overload w) (sym fe) ∙ ap (ended_of total overload) (we ∙ ap (λ (b : Bool). whole_run_of b table xs (start_of r o)) ce) in
-      let shown = ap (λ (t : Snapshot). outcome_now (Ok (record { count = w.lent.room.written; overload = overload; snapshot = t })) (receiver_with total w left) w.lent.room.dibits w.lent.room.reliabilities w.lent.other.dibits w.lent.other.reliabilities) se in
-      (rw (← je) (shown ∙ ended), run_admitted conjugated r table xs r.memory o w left asks g, run_most conjugated r table xs r.memory o w g)
+    -- an accepted block, from what the run left
+    pub taken_is : (conjugated : Bool) (memory : List Float) (w : Whole) (s : Snapshot) (left : List Float) → Going conjugated table xs (start_with r memory o) w → s ≡ snapshot_of w.lent.state.place
+        → ended_with (r.total + count_of xs) overload w left ≡ ended_of (r.total + count_of xs) overload (whole_run_of (conjugated_of r.chain.profile) table xs (start_of r o))
+        → (outcome_now (made r table xs overload o w s) (receiver_with (r.total + count_of xs) w left) w.lent.room.dibits w.lent.room.reliabilities w.lent.other.dibits w.lent.other.reliabilities ≡ block_of r table xs o)
+        × ((admitted_of (receiver_with (r.total + count_of xs) w left) ≡ true) × (w.lent.room.written ≤ length xs))
+    taken_is conjugated memory w s left g se en =
+        let a = accepted_is r table xs overload o conjugated memory w s left (take_asks r table xs (dibit_room o) (reliability_room o) overload je) g se en in
+        (take_accepted (made r table xs overload o w s) (receiver_with (r.total + count_of xs) w left) w.lent.room.dibits w.lent.room.reliabilities w.lent.other.dibits w.lent.other.reliabilities a.0, a.1)
+
+    -- and one for which nothing was lent to the second stream
+    pub taken_one : (conjugated : Bool) (memory : List Float) (w : Whole) (s : Snapshot) (left : List Float) → Going conjugated table xs (start_with r memory o) w → s ≡ snapshot_of w.lent.state.place
+        → ended_with (r.total + count_of xs) overload w left ≡ ended_of (r.total + count_of xs) overload (whole_run_of (conjugated_of r.chain.profile) table xs (start_of r o))
+        → length w.lent.other.dibits ≡ 0 → length w.lent.other.reliabilities ≡ 0
+        → (outcome_now (made r table xs overload o w s) (receiver_with (r.total + count_of xs) w left) w.lent.room.dibits w.lent.room.reliabilities [] [] ≡ block_of r table xs o)
+        × ((admitted_of (receiver_with (r.total + count_of xs) w left) ≡ true) × (w.lent.room.written ≤ length xs))
+    taken_one conjugated memory w s left g se en es qs =
+        let a = taken_is conjugated memory w s left g se en in
+        (none_lent (made r table xs overload o w s) (receiver_with (r.total + count_of xs) w left) w.lent.room.dibits w.lent.room.reliabilities w.lent.other.dibits w.lent.other.reliabilities (block_of r table xs o) es qs a.0, a.1)

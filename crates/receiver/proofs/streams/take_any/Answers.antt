@@ -9,7 +9,7 @@ use Rattle.run.specs.Run.{whole_now}
 use Rattle.second.specs.Parts.{split_join}
 use Rattle.receiver.specs.Block.{rooms_of}
 use Rattle.receiver.specs.Accepted.{take_asks, take_total}
-use Rattle.receiver.proofs.BlockLaws.{run_asks, run_admitted, judged_rooms, take_refused, taken_is}
+use Rattle.receiver.proofs.BlockLaws.{run_asks, run_admitted, judged_rooms, ended_both, take_refused, taken_is}
 use borrow.Author.Rules.{rules}
 use Rattle.receiver.proofs.streams.take_any.Goals as goal
 
@@ -38,7 +38,8 @@ returns-clause-same c =
     let judged = judged_rooms c.args.r.now _ _ lent (Ok c.in_ok-overload.overload) _ _ c.room.ensures c.room-2.ensures c.in_ok-overload.ensures in
     let fits : SFits w32 c.args.r.now.chain.profile = search rules in
     let conjugated = rw (to_z-of_z fits) at c.is_conjugated.ensures in
-    (taken_is c.args.r.now c.args.table.now c.args.samples.now lent _ _ (whole_now c.run-t.result _ _ _ _ _ _ _ _) _ _ judged conjugated c.run-t.ensures.0 c.run-t.ensures.1 c.snapshot_of.ensures (split_join _ (search rules))).0
+    let ended = ended_both c.args.r.now c.args.table.now c.args.samples.now c.in_ok-overload.overload lent _ (whole_now c.run-t.result _ _ _ _ _ _ _ _) _ conjugated c.run-t.ensures.0 (split_join _ (search rules)) in
+    (taken_is c.args.r.now c.args.table.now c.args.samples.now lent c.in_ok-overload.overload judged _ _ (whole_now c.run-t.result _ _ _ _ _ _ _ _) _ _ c.run-t.ensures.1 c.snapshot_of.ensures ended).0
 
 pub returns-clause-kept : goal.returns-clause-kept
 returns-clause-kept c =
