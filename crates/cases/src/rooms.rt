@@ -1,18 +1,15 @@
 // Case 15: a block of no samples, with room enough and too little.
-use super::say::{number, text, verdict};
+use super::say::{number, text};
+use checks::refusal::number as number_of;
 use receiver_state::state::Receiver;
 
 fn block(r: &mut Receiver, table: &[f32], dibits: &mut [u8], reliabilities: &mut [u8]) {
     let none = [0.0; 0];
     let b = receiver::block::take(r, table, &none, dibits, reliabilities);
-    let count = match b {
-        Ok(b) => b.count,
-        Err(_) => 0,
-    };
     text(b": refusal");
-    number(verdict(b));
+    number(u64::from(number_of(&b)));
     text(b", k");
-    number(count as u64);
+    number(receiver::block::told(b).count as u64);
 }
 
 pub fn no_samples() {

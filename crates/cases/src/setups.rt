@@ -1,5 +1,6 @@
 // Cases 11 and 12: what a setup answers.
-use super::say::{number, text, verdict};
+use super::say::{number, text};
+use checks::refusal::number as number_of;
 
 // The refusal's number, or 0, and the dimensions of the state that came back, or zeros.
 #[derive(Clone, Copy)]
@@ -11,14 +12,11 @@ struct Answer {
 
 fn set_up(rate: f64, offset: f64, table: &mut [f32]) -> Answer {
     let s = receiver::setup::set_up(rate, offset, 0, table);
-    let (decimation, arm) = match s {
-        Ok(r) => (r.front.decimator.decimation, r.front.resampler.arm),
-        Err(_) => (0, 0),
-    };
+    let front = receiver::setup::told(s).front;
     Answer {
-        refusal: verdict(s),
-        decimation,
-        arm,
+        refusal: u64::from(number_of(&s)),
+        decimation: front.decimator.decimation,
+        arm: front.resampler.arm,
     }
 }
 

@@ -1,6 +1,6 @@
 // Why a call is refused.
 ghost use Rattle.std.specs.Prelude.{◌≡◌};
-ghost use Rattle.checks.specs.Refusal.{number_of};
+ghost use Rattle.checks.specs.Refusal.{number_of, verdict_of};
 
 #[derive(Clone, Copy, Debug, PartialEq, Eq)]
 pub enum Refusal {
@@ -37,5 +37,15 @@ impl From<Refusal> for u32 {
             Refusal::State => 7,
             Refusal::File => 8,
         }
+    }
+}
+
+// The number of a call's answer: the refusal's, or 0 where the call is accepted.
+pub fn number<T>(answer: &Result<T, Refusal>) -> u32
+    ensures { result ≡ verdict_of answer.now }
+{
+    match answer {
+        Ok(_) => 0,
+        Err(refusal) => u32::from(*refusal),
     }
 }

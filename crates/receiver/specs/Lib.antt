@@ -6,4 +6,5 @@ pub mod Ways
 pub mod Accepted
 pub mod Absent
 pub mod Block
+pub mod Told
 pub mod Laws

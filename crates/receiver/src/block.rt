@@ -2,10 +2,11 @@
 ghost use Rattle.std.specs.Prelude.{◌≡◌, true, [], ◌≤◌, length, OnOk, IfOk};
 ghost use Rattle.receiver.specs.Block.{one, two, outcome_now, block_of};
 ghost use Rattle.receiver.specs.Admitted.{admitted_of};
+ghost use Rattle.receiver.specs.Told.{block_told};
 
 use super::streams::take_any;
 use checks::refusal::Refusal;
-use receiver_state::state::{Receiver, Snapshot};
+use receiver_state::state::{Receiver, Snapshot, zero_snapshot};
 
 // How many dibits were written for each stream, and how many samples have a part at an end of what a
 // 16-bit converter gives, or beyond it.
@@ -68,4 +69,19 @@ pub fn take_both(
         other_reliabilities,
         true,
     )
+}
+
+// What a block's answer tells: a refused one writes no dibit and counts no overload, and its lock report is
+// of zeros.
+pub fn told(answer: Result<Block, Refusal>) -> Block
+    ensures { result ≡ block_told answer }
+{
+    match answer {
+        Ok(block) => block,
+        Err(_) => Block {
+            count: 0,
+            overload: 0,
+            snapshot: zero_snapshot(),
+        },
+    }
 }

@@ -1,6 +1,7 @@
 // The constellation: the last points, oldest first, and their error.
 ghost use Rattle.std.specs.Prelude.{◌≡◌};
 ghost use Rattle.receiver.specs.Reading.{points_now, reading_of};
+ghost use Rattle.receiver.specs.Told.{points_told};
 
 use super::admitted::is_admitted;
 use checks::refusal::Refusal;
@@ -29,4 +30,17 @@ pub fn read(r: &Receiver, output: &mut [f32]) -> Result<Points, Refusal>
         count: p.count,
         error: p.error,
     })
+}
+
+// What a reading's answer tells: a refused one counts no point, and no error.
+pub fn told(answer: Result<Points, Refusal>) -> Points
+    ensures { result ≡ points_told answer }
+{
+    match answer {
+        Ok(points) => points,
+        Err(_) => Points {
+            count: 0,
+            error: 0.0,
+        },
+    }
 }

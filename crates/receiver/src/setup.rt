@@ -2,6 +2,7 @@
 ghost use Rattle.std.specs.Prelude.{◌≡◌};
 ghost use Rattle.receiver_state.specs.State.{fresh_front};
 ghost use Rattle.receiver.specs.Setup.{setup_now, setup_of};
+ghost use Rattle.receiver.specs.Told.{state_told};
 
 use checks::refusal::Refusal;
 use checks::setup::{offset_is_refused, rate_is_refused};
@@ -40,4 +41,14 @@ pub fn set_up(rate: f64, offset: f64, profile: i32, table: &mut [f32]) -> Result
     resampler::design::write_table(d.arm, d.rate, table);
     let front = front_at(rate, offset, d);
     Ok(receiver_state::state::fresh(front, profile))
+}
+
+// The state that a setup's answer tells: of a refused one the state of zeros, which every call refuses.
+pub fn told(answer: Result<Receiver, Refusal>) -> Receiver
+    ensures { result ≡ state_told answer }
+{
+    match answer {
+        Ok(fresh) => fresh,
+        Err(_) => receiver_state::state::zero(),
+    }
 }

@@ -2,11 +2,10 @@
 ghost use Rattle.std.specs.Prelude.{◌<◌, ◌≤◌, length};
 
 use answers::PARENTS;
-use checks::refusal::Refusal;
+use checks::refusal::{Refusal, number};
 use numbers::bits::{float, float32};
 use receiver::block::Block;
-use receiver::reading::Points;
-use receiver_state::state::{Receiver, Snapshot, zero, zero_snapshot};
+use receiver_state::state::{Receiver, Snapshot};
 use replay::{mark, mixed, mixed_bytes, mixed_float, mixed_plane, next, unit, word};
 use replay_second::{Making, made_second};
 use replay_states::{WORDS, decoded, encode, profile_of, put_second};
@@ -90,20 +89,12 @@ fn fill_bytes(lent: &mut [u8], last: u8) {
 
 // ---- setup, enabling and read
 
-// The refusal's number, or 0.
-fn verdict<T: Copy>(answer: Result<T, Refusal>) -> u32 {
-    match answer {
-        Ok(_) => 0,
-        Err(refusal) => u32::from(refusal),
-    }
-}
-
-// A refused setup leaves the state of zeros.
+// A refused setup tells the state of zeros.
 fn set_up_in(e: Entry, words: &mut [u64; WORDS], lent: &mut [f32]) -> u32 {
     let profile = profile_of(e.third);
     let s = receiver::setup::set_up(float(e.first), float(e.second), profile, lent);
-    encode(&s.unwrap_or(zero()), words);
-    verdict(s)
+    encode(&receiver::setup::told(s), words);
+    number(&s)
 }
 
 pub fn set_up(e: Entry, words: &mut [u64; WORDS], table: &mut [f32]) {
@@ -118,7 +109,7 @@ pub fn set_up(e: Entry, words: &mut [u64; WORDS], table: &mut [f32]) {
 
 pub fn enable(words: &mut [u64; WORDS]) {
     let mut r = decoded(words);
-    let refusal = verdict(receiver::enable::enable(&mut r));
+    let refusal = number(&receiver::enable::enable(&mut r));
     encode(&r, words);
     print_answer(refusal, 0, mixed(0, u64::from(refusal)), words);
 }
@@ -126,11 +117,8 @@ pub fn enable(words: &mut [u64; WORDS]) {
 fn read_in(words: &[u64; WORDS], lent: &mut [f32]) {
     mark(&mut *lent);
     let answer = receiver::reading::read(&decoded(words), &mut *lent);
-    let refusal = verdict(answer);
-    let p = answer.unwrap_or(Points {
-        count: 0,
-        error: 0.0,
-    });
+    let refusal = number(&answer);
+    let p = receiver::reading::told(answer);
     let count = p.count as u64;
     let h = mixed_float(mixed(mixed(0, u64::from(refusal)), count), p.error);
     print_answer(refusal, count, mixed_plane(h, lent), words);
@@ -243,12 +231,8 @@ fn block_answer(
     words: &mut [u64; WORDS],
 ) -> BlockAnswer {
     encode(r, words);
-    let refusal = verdict(answer);
-    let b = answer.unwrap_or(Block {
-        count: 0,
-        overload: 0,
-        snapshot: zero_snapshot(),
-    });
+    let refusal = number(&answer);
+    let b = receiver::block::told(answer);
     let count = b.count as u64;
     let h = mixed(
         mixed(mixed(0, u64::from(refusal)), count),

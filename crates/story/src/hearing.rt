@@ -55,10 +55,7 @@ pub fn hear(rate: f64, offset: f64, samples: &[f32], told: bool, digests: &mut [
     requires { length samples.now ≡ 49152 }
 {
     let mut table = [0.0; 18432];
-    let mut r = match receiver::setup::set_up(rate, offset, 0, &mut table) {
-        Ok(fresh) => fresh,
-        Err(_) => receiver_state::state::zero(),
-    };
+    let mut r = receiver::setup::told(receiver::setup::set_up(rate, offset, 0, &mut table));
     for k in 0..24 {
         heard(&mut r, &table, &samples[2048 * k..2048 * k + 2048], told);
         digests[k] = values(&r);
