@@ -7,4 +7,5 @@ pub mod Accepted
 pub mod Absent
 pub mod Block
 pub mod Told
+pub mod ToldLaws
 pub mod Laws

@@ -1,49 +1,22 @@
--- What an answer tells, of a refused call too; and that the outcomes of the calls hold just that. Assumes nothing.
-use Rattle.std.specs.Prelude.{◌≡◌, refl, ℕ, List, Float, Result, Ok, Err}
+-- What an answer tells, of a refused call too. Definitions only.
+use Rattle.std.specs.Prelude.{Result}
+use Rattle.std.specs.Result.{result_unwrap_or}
 use Rattle.std.specs.Float.{binary64}
 use Rattle.std.specs.Float.Ieee.{of_bits}
 use Rattle.checks.specs.declared.refusal.Refusal.{Refusal}
-use Rattle.checks.specs.Refusal.{verdict_of}
 use Rattle.receiver_state.specs.declared.state.Receiver.{Receiver}
 use Rattle.receiver_state.specs.State.{zero_receiver, zero_snapshot}
 use Rattle.receiver.specs.declared.block.Block.{Block}
 use Rattle.receiver.specs.declared.reading.Points.{Points}
-use Rattle.receiver.specs.Setup.{SetUp, setup_now}
-use Rattle.receiver.specs.Block.{Outcome, outcome_now}
-use Rattle.receiver.specs.Reading.{Reading, points_now}
 
+-- a refused setup: every number zero, every flag false, every option absent
 abbrev pub state_told : Result Receiver Refusal → Receiver
-state_told (Ok r) = r
-state_told (Err e) = zero_receiver
+state_told x = result_unwrap_or x zero_receiver
 
+-- a refused block: k 0, overload 0, a `Snapshot` of zeros
 abbrev pub block_told : Result Block Refusal → Block
-block_told (Ok b) = b
-block_told (Err e) = record { count = 0; overload = 0; snapshot = zero_snapshot }
+block_told x = result_unwrap_or x (record { count = 0; overload = 0; snapshot = zero_snapshot })
 
+-- a refused reading: count 0, error 0
 abbrev pub points_told : Result Points Refusal → Points
-points_told (Ok p) = p
-points_told (Err e) = record { count = 0; error = of_bits binary64 0 }
-
-pub setup_tells : (x : Result Receiver Refusal) (table : List Float) → ◌≡◌ {A = SetUp} (record { number = verdict_of x; receiver = state_told x; table = table }) (setup_now x table)
-setup_tells (Ok r) table = refl
-setup_tells (Err e) table = refl
-
-pub block_tells : (x : Result Block Refusal) (r : Receiver) (ds rs es qs : List ℕ)
-    → ◌≡◌ {A = Outcome} (record {
-      number = verdict_of x;
-      receiver = r;
-      count = (block_told x).count;
-      overload = (block_told x).overload;
-      snapshot = (block_told x).snapshot;
-      dibits = ds;
-      reliabilities = rs;
-      others = es;
-      other_reliabilities = qs;
-    }) (outcome_now x r ds rs es qs)
-block_tells (Ok b) r ds rs es qs = refl
-block_tells (Err e) r ds rs es qs = refl
-
-pub reading_tells : (x : Result Points Refusal) (output : List Float)
-    → ◌≡◌ {A = Reading} (record { number = verdict_of x; count = (points_told x).count; error = (points_told x).error; output = output }) (points_now x output)
-reading_tells (Ok p) output = refl
-reading_tells (Err e) output = refl
+points_told x = result_unwrap_or x (record { count = 0; error = of_bits binary64 0 })

@@ -76,12 +76,9 @@ pub fn take_both(
 pub fn told(answer: Result<Block, Refusal>) -> Block
     ensures { result ≡ block_told answer }
 {
-    match answer {
-        Ok(block) => block,
-        Err(_) => Block {
-            count: 0,
-            overload: 0,
-            snapshot: zero_snapshot(),
-        },
-    }
+    answer.unwrap_or(Block {
+        count: 0,
+        overload: 0,
+        snapshot: zero_snapshot(),
+    })
 }

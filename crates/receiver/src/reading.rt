@@ -36,11 +36,8 @@ pub fn read(r: &Receiver, output: &mut [f32]) -> Result<Points, Refusal>
 pub fn told(answer: Result<Points, Refusal>) -> Points
     ensures { result ≡ points_told answer }
 {
-    match answer {
-        Ok(points) => points,
-        Err(_) => Points {
-            count: 0,
-            error: 0.0,
-        },
-    }
+    answer.unwrap_or(Points {
+        count: 0,
+        error: 0.0,
+    })
 }

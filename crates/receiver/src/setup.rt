@@ -47,8 +47,5 @@ pub fn set_up(rate: f64, offset: f64, profile: i32, table: &mut [f32]) -> Result
 pub fn told(answer: Result<Receiver, Refusal>) -> Receiver
     ensures { result ≡ state_told answer }
 {
-    match answer {
-        Ok(fresh) => fresh,
-        Err(_) => receiver_state::state::zero(),
-    }
+    answer.unwrap_or(receiver_state::state::zero())
 }
